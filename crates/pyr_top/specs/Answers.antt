@@ -1,0 +1,88 @@
+-- What the program answers to its words and its input.
+use Rattle.std.specs.Prelude.{◌≡◌, ◌⊎◌, ℕ, ◌<◌, ◌≤◌, Bool, true, false, List, Option, Result, Ok, Err, IfSome, IsOkAnd, length}
+use Rattle.std.specs.Io.KnownBytes.{Appends, IsAtEnd}
+use Rattle.pyr_num.specs.declared.limits.TheConstants.Limits.{INPUT}
+use Rattle.pyr_port.specs.Giving.{AppendsPrefix}
+use Rattle.pyr_top.specs.declared.command.Command.{Command}
+use Rattle.pyr_top.specs.declared.command.Command.TheVariants.{Seq}
+use Rattle.pyr_top.specs.declared.refusal.Refusal.{Refusal}
+use Rattle.pyr_top.specs.declared.refusal.Refusal.TheVariants.{Usage, Source, Sink, Memory, Form}
+use Rattle.pyr_top.specs.declared.status.Status as status
+use Rattle.pyr_top.specs.declared.status.Status.TheVariants as statuses
+use Rattle.pyr_top.specs.Commands.{spelling, input_of, NoCommand, ReadsInput}
+use Rattle.pyr_top.specs.Refusals.{status_of, line_of, too_long}
+use Rattle.pyr_top.specs.SixLines.{IsSixLines, NotSixLines, printed_line}
+
+-- the input is of the six lines, and the output is the line that they print
+pub record Prints (input output : List ℕ) : Type 0 where
+  pub name : List ℕ
+  pub value : ℕ
+  pub form : IsSixLines input name value
+  pub line : output ≡ printed_line name value
+
+-- what a command gives for an input within the limit: its output, or its refusal
+abbrev pub Gives : Command → List ℕ → Result (List ℕ) Refusal → Type 0
+Gives Seq input (Ok output) = Prints input output
+Gives Seq input (Err refusal) = (refusal ≡ Form) × NotSixLines input
+
+-- the defined answer of a command to an input: what it gives, and above the limit the refusal for that
+pub record Answers (command : Command) (input : List ℕ) (given : Result (List ℕ) Refusal) : Type 0 where
+  pub within : length input ≤ INPUT → Gives command input given
+  pub above : INPUT < length input → given ≡ Err too_long
+
+-- the words are a command, and where its input is told, the defined answer is such
+pub record IsAnswered (words : List (List ℕ)) (left : Option (List ℕ)) (IsSuch : Result (List ℕ) Refusal → Type 0) : Type 0 where
+  pub command : Command
+  pub spelled : words ≡ spelling command
+  pub answer : IfSome (input_of command left) (λ input. (given : Result (List ℕ) Refusal) × Answers command input given × IsSuch given)
+
+-- the defined answer is an output, which was written so
+abbrev pub Delivers : List (List ℕ) → Option (List ℕ) → (List ℕ → Type 0) → Type 0
+Delivers words left IsWritten = IsAnswered words left (λ given. IsOkAnd given IsWritten)
+
+-- the cause of a refusal, where `source` and `out` say that the count of faults rose there
+abbrev pub Cause : List (List ℕ) → Option (List ℕ) → Type 0 → Type 0 → Refusal → Type 0
+Cause words left source out Usage = NoCommand words
+Cause words left source out Source = ReadsInput words × source
+Cause words left source out Sink = out
+Cause words left source out Memory = Unit {0}
+Cause words left source out Form = IsAnswered words left (λ given. given ≡ Err Form)
+
+-- the status tells of the input
+abbrev pub tells_of_input : status.Status → Bool
+tells_of_input statuses.Ok = false
+tells_of_input statuses.Usage = false
+tells_of_input statuses.Source = false
+tells_of_input statuses.Sink = false
+tells_of_input statuses.Memory = false
+tells_of_input _ = true
+
+-- the defined answer is a refusal with this status
+abbrev pub IsRefusedAs : List (List ℕ) → Option (List ℕ) → status.Status → Type 0
+IsRefusedAs words left ended = IsAnswered words left (λ given. (refusal : Refusal) × (given ≡ Err refusal) × (ended ≡ status_of refusal))
+
+-- a call that ended with a refusal: its cause, and its line, of which `err` holds a prefix, and all of it where `err` didn't fail
+pub record IsRefused (words : List (List ℕ)) (left : Option (List ℕ)) (source out err : Type 0) (old new : Option (List ℕ)) (ended : status.Status) : Type 0 where
+  pub refusal : Refusal
+  pub status : ended ≡ status_of refusal
+  pub cause : Cause words left source out refusal
+  pub line : AppendsPrefix old new (line_of refusal)
+  pub whole : Appends old new (line_of refusal) ⊎ err
+
+-- the call ended as this defined answer says
+abbrev pub EndsAs : Option (List ℕ) → Option (List ℕ) → status.Status → Result (List ℕ) Refusal → Type 0
+EndsAs old new ended (Ok output) = (ended ≡ statuses.Ok) × Appends old new output
+EndsAs old new ended (Err refusal) = ended ≡ status_of refusal
+
+-- where the words are a command and its input is told, the call ended as the defined answer says, or for want of memory
+abbrev pub IsComplete : List (List ℕ) → Option (List ℕ) → Option (List ℕ) → Option (List ℕ) → status.Status → Type 0
+IsComplete words left old new ended =
+    (command : Command)
+    → words ≡ spelling command
+    → IfSome (input_of command left) (λ input. (given : Result (List ℕ) Refusal)
+    → Answers command input given
+    → EndsAs old new ended given ⊎ (ended ≡ statuses.Memory))
+
+-- an input within the limit was read to its end
+abbrev pub IsReadToEnd : List (List ℕ) → Option (List ℕ) → Option (List ℕ) → Type 0
+IsReadToEnd words old new = ReadsInput words → IfSome old (λ input. length input ≤ INPUT → IsAtEnd new)

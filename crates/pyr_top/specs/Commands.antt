@@ -1,0 +1,31 @@
+-- The commands: the words that spell each, and whether it has an input.
+use Rattle.std.specs.Prelude.{◌≡◌, ◌≢◌, ℕ, Bool, true, List, [], ◌∷◌, Option, Some, map, codes, String, string_bytes, IsTrue, if◌then◌else◌}
+use Rattle.std.specs.declared.alloc.Global.{Global}
+use Rattle.pyr_top.specs.declared.command.Command.{Command}
+use Rattle.pyr_top.specs.declared.command.Command.TheVariants.{Seq}
+
+-- the bytes of each word
+abbrev pub texts : List (String Global) → List (List ℕ)
+texts words = map string_bytes words
+
+-- the words of a command
+abbrev pub spelling : Command → List (List ℕ)
+spelling Seq = codes "seq" ∷ []
+
+-- the command reads the source to its end
+abbrev pub has_input : Command → Bool
+has_input Seq = true
+
+-- the bytes that a command is given, where they are told: those that are left in the source, and none where it has no input
+abbrev pub input_of : Command → Option (List ℕ) → Option (List ℕ)
+input_of command left = if has_input command then left else Some []
+
+-- the words are those of no command
+abbrev pub NoCommand : List (List ℕ) → Type 0
+NoCommand words = (command : Command) → words ≢ spelling command
+
+-- the words are those of a command with an input
+pub record ReadsInput (words : List (List ℕ)) : Type 0 where
+  pub command : Command
+  pub spelled : words ≡ spelling command
+  pub input : IsTrue (has_input command)

@@ -1,0 +1,18 @@
+//! The commands of the program, from the bytes that it reads to the bytes that it writes.
+#![tactic(auto)]
+
+mod command;
+mod reader;
+mod refusal;
+mod six_lines;
+mod status;
+mod top;
+
+pub use command::Command;
+pub use refusal::Refusal;
+pub use six_lines::SixLines;
+pub use status::Status;
+pub use top::answer;
+
+#[cfg(test)]
+mod tests;

@@ -1,0 +1,109 @@
+// The top call.
+ghost use Rattle.std.specs.Prelude.{◌≡◌, ◌≢◌, ◌⊎◌, ◌↔◌, ℕ, List, IfOk, IfErr, OnOk, IsTrue};
+ghost use Rattle.std.specs.Io.KnownBytes.{Appends};
+ghost use Rattle.pyr_port.specs.Causes.{Rose};
+ghost use Rattle.pyr_port.specs.Giving.{AppendsPrefix};
+ghost use Rattle.pyr_top.specs.Commands.{texts, NoCommand, ReadsInput};
+ghost use Rattle.pyr_top.specs.Answers.{Gives, Delivers, Cause, IsRefused, IsRefusedAs, IsComplete};
+ghost use Rattle.pyr_top.specs.Answers.{IsReadToEnd, tells_of_input};
+
+use crate::command::read_command;
+use crate::{Command, Refusal, SixLines, Status};
+use pyr_num::Limits;
+use pyr_port::{Sink, Source, read_all, write_all};
+use std::alloc::Global;
+
+/// Does what the words ask for: reads the source to its end, writes the output to `out`, and where it
+/// can't, one line on the cause to `err`. It takes no memory where the words are no command.
+pub fn answer<S: Source, O: Sink, E: Sink>(
+    alloc: Global,
+    words: &[String],
+    source: &mut S,
+    out: &mut O,
+    err: &mut E,
+) -> Status
+    // Where all goes well, the defined output was appended.
+    ensures ok { result ≡ Status.Ok → Delivers (texts words.now) (S.left source.old)
+        (Appends (O.written out.old) (O.written out.new)) }
+
+    // Each refusal has its cause. Want of memory alone is free.
+    ensures usage { (result ≡ Status.Usage) ↔ NoCommand (texts words.now) }
+    ensures source_failed { result ≡ Status.Source
+        → ReadsInput (texts words.now) × Rose (S.faults source.old) (S.faults source.new) }
+    ensures sink_failed { result ≡ Status.Sink → Rose (O.faults out.old) (O.faults out.new) }
+    ensures input_refused { IsTrue (tells_of_input result)
+        → IsRefusedAs (texts words.now) (S.left source.old) result }
+
+    // Where nothing fails, the call ends as the defined answer says, or for want of memory.
+    ensures complete { ¬ Rose (S.faults source.old) (S.faults source.new)
+        → ¬ Rose (O.faults out.old) (O.faults out.new)
+        → IsComplete (texts words.now) (S.left source.old) (O.written out.old) (O.written out.new)
+        result }
+
+    // What becomes of the source and of `out`.
+    ensures unread { ¬ ReadsInput (texts words.now) → source.new ≡ source.old }
+    ensures read_to_end { (result ≡ Status.Ok) ⊎ IsTrue (tells_of_input result)
+        → IsReadToEnd (texts words.now) (S.left source.old) (S.left source.new) }
+    ensures nothing { result ≢ Status.Ok → result ≢ Status.Sink → out.new ≡ out.old }
+    ensures prefix { result ≡ Status.Sink → Delivers (texts words.now) (S.left source.old)
+        (AppendsPrefix (O.written out.old) (O.written out.new)) }
+
+    // What becomes of `err`: a failing one changes no status.
+    ensures quiet { result ≡ Status.Ok → err.new ≡ err.old }
+    ensures told { result ≢ Status.Ok → IsRefused (texts words.now) (S.left source.old)
+        (Rose (S.faults source.old) (S.faults source.new)) (Rose (O.faults out.old) (O.faults out.new))
+        (Rose (E.faults err.old) (E.faults err.new)) (E.written err.old) (E.written err.new) result }
+{
+    match respond(alloc, words, source, out) {
+        Ok(()) => Status::Ok,
+        Err(refusal) => {
+            let _ = write_all(err, refusal.line());
+            refusal.status()
+        }
+    }
+}
+
+fn respond<S: Source, O: Sink>(
+    alloc: Global,
+    words: &[String],
+    source: &mut S,
+    out: &mut O,
+) -> Result<(), Refusal>
+    ensures ok { OnOk result (Delivers (texts words.now) (S.left source.old)
+        (Appends (O.written out.old) (O.written out.new))) }
+    ensures cause { IfErr result (λ refusal. Cause (texts words.now) (S.left source.old)
+        (Rose (S.faults source.old) (S.faults source.new))
+        (Rose (O.faults out.old) (O.faults out.new)) refusal) }
+    ensures usage { NoCommand (texts words.now) → result ≡ Err Refusal.Usage }
+
+    ensures unread { result ≡ Err Refusal.Usage → source.new ≡ source.old }
+    ensures read_to_end { OnOk result
+        (IsReadToEnd (texts words.now) (S.left source.old) (S.left source.new)) }
+    ensures refused_at_end { result ≡ Err Refusal.Form
+        → IsReadToEnd (texts words.now) (S.left source.old) (S.left source.new) }
+    ensures nothing { IfErr result (λ refusal. refusal ≢ Refusal.Sink → out.new ≡ out.old) }
+    ensures prefix { result ≡ Err Refusal.Sink → Delivers (texts words.now) (S.left source.old)
+        (AppendsPrefix (O.written out.old) (O.written out.new)) }
+{
+    let command = read_command(words).ok_or(Refusal::Usage)?;
+    let input = read_all(alloc, source, Limits::INPUT)?;
+    let output = output_of(alloc, command, &input)?;
+    write_all(out, &output)?;
+    Ok(())
+}
+
+// What the command gives for the input.
+fn output_of(alloc: Global, command: Command, input: &[u8]) -> Result<Vec<u8>, Refusal>
+    ensures ok { IfOk result (λ output. Gives command input.now (Ok output.items)) }
+    ensures refused { IfErr result (λ refusal.
+        refusal ≢ Refusal.Memory → Gives command input.now (Err refusal)) }
+    ensures input_alone { IfErr result (λ refusal.
+        (refusal ≡ Refusal.Form) ⊎ (refusal ≡ Refusal.Memory)) }
+{
+    match command {
+        Command::Seq => {
+            let lines = SixLines::read(input).ok_or(Refusal::Form)?;
+            Ok(lines.output(alloc)?)
+        }
+    }
+}
