@@ -1,0 +1,5 @@
+pub mod Alone
+pub mod Handover
+pub mod Laws
+pub mod Net
+pub mod Run
