@@ -71,12 +71,12 @@ fn are_within(comm: u64, cost: u64) -> bool
 
 // Reads a text word by word. After a `None` it isn't used again.
 #[derive(Drop)]
-pub struct Reader<'a> {
+pub(crate) struct Reader<'a> {
     rest: &'a [u8],
 }
 
 impl<'a> Reader<'a> {
-    pub fn new(text: &'a [u8]) -> Self
+    pub(crate) fn new(text: &'a [u8]) -> Self
         ensures { result.rest.now ≡ text.now }
     {
         Reader { rest: text }
@@ -114,7 +114,7 @@ impl<'a> Reader<'a> {
     }
 
     // The datum's name, behind which the first two lines are read.
-    pub fn head(&mut self) -> Option<Name>
+    pub(crate) fn head(&mut self) -> Option<Name>
         ensures some { IfSome result (λ name.
             HasHead self.old.rest.now name self.new.rest.now) }
         ensures none { IfNone result (NoHead self.old.rest.now) }
@@ -131,7 +131,7 @@ impl<'a> Reader<'a> {
     }
 
     // The number that the last four lines put into the datum and print.
-    pub fn tail(&mut self, name: &Name) -> Option<u64>
+    pub(crate) fn tail(&mut self, name: &Name) -> Option<u64>
         ensures some { IfSome result (λ value. HasTail self.old.rest.now name.now value) }
         ensures none { IfNone result (NoTail self.old.rest.now name.now) }
     {
