@@ -1,0 +1,10 @@
+pub mod Depth
+pub mod Laws
+pub mod Line
+pub mod Number
+pub mod Outcome
+pub mod Reading
+pub mod Spacing
+pub mod Symbol
+pub mod Token
+pub mod Word
