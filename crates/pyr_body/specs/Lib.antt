@@ -1,0 +1,10 @@
+pub mod Tree
+pub mod Seen
+pub mod TreeCode
+pub mod Parts
+pub mod Meaning
+pub mod Size
+pub mod Running
+pub mod Scope
+pub mod Lines
+pub mod Body
