@@ -43,4 +43,5 @@ ValuesHaveLengths =
     (tasks : Tasks) (length_of : ℕ → ℕ) (order : List ℕ) → HasOneWriter tasks
     → IsTopological tasks.count (IsEdgeOf tasks) order → MakesLengths tasks length_of
     → (t d : ℕ) → t < tasks.count → Contains (tasks.writes t) d
-    → (values tasks order d ≡ Some (value_of tasks order d)) × (length (value_of tasks order d) ≡ length_of d)
+    → (values tasks order d ≡ Some (value_of tasks order d))
+    × (length (value_of tasks order d) ≡ length_of d)

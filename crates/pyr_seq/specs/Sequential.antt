@@ -53,7 +53,9 @@ IsEdgeOf tasks a b = (d : ℕ) × Contains (tasks.writes a) d × Contains (tasks
 
 -- no two tasks write one datum
 abbrev pub HasOneWriter : Tasks → Type 0
-HasOneWriter tasks = (a b d : ℕ) → a < tasks.count → b < tasks.count → Contains (tasks.writes a) d → Contains (tasks.writes b) d → a ≡ b
+HasOneWriter tasks =
+    (a b d : ℕ) → a < tasks.count → b < tasks.count
+    → Contains (tasks.writes a) d → Contains (tasks.writes b) d → a ≡ b
 
 -- the task's equation: what it writes is what it makes of what it reads
 abbrev pub Solves : Tasks → Store → ℕ → Type 0

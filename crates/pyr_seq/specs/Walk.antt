@@ -22,4 +22,5 @@ pub record IsTopological (count : ℕ) (IsEdge : ℕ → ℕ → Type 0) (order 
   pub tasks : All (λ t. t < count) order
   pub each : (t : ℕ) → t < count → Contains order t
   pub once : (i j : ℕ) → i < count → j < count → slice_index order i ≡ slice_index order j → i ≡ j
-  pub before : (i j : ℕ) → i < count → j < count → IsEdge (slice_index order i) (slice_index order j) → i < j
+  pub before : (i j : ℕ) → i < count → j < count
+      → IsEdge (slice_index order i) (slice_index order j) → i < j

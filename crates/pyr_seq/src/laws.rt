@@ -18,8 +18,8 @@ pub fn any_order_gives_the_values()
     ensures { AnyOrderGivesTheValues }
 {}
 
-/// Where no two tasks write one datum, the values that a topological order leaves solve the equation
-/// of each task: what it writes there is what it makes of what it reads there.
+/// Where no two tasks write one datum, the values that a topological order leaves solve the
+/// equation of each task: what it writes there is what it makes of what it reads there.
 pub fn values_solve_each_task()
     ensures { ValuesSolveEachTask }
 {}

@@ -1,0 +1,15 @@
+pub mod ListLemmas
+pub mod Counting
+pub mod RowLemmas
+pub mod EdgeLemmas
+pub mod ReleaseLemmas
+pub mod TrailLemmas
+pub mod SmallestFirst
+pub mod OrderLemmas
+pub mod RepeatLemmas
+pub mod WriterLemmas
+pub mod IndexLemmas
+pub mod SoundLemmas
+pub mod BuildLemmas
+pub mod OneCycle
+pub mod OneFault

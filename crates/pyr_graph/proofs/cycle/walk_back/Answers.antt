@@ -1,0 +1,44 @@
+use Rattle.std.proofs.Common.{◌≡◌, ◌<◌, length, get_or, arith, sym, ◌∙◌, None}
+use Rattle.std.proofs.lemmas.List.{get_or_read, drop-map, map_push, length-map}
+use Rattle.pyr_num.specs.declared.ids.TaskId.{TaskId}
+use Rattle.pyr_graph.specs.System.{task_numbers}
+use Rattle.pyr_graph.specs.Tables.{IsWaiting, Precedes}
+use Rattle.pyr_graph.proofs.TrailLemmas.{IsTrail-step, IsTrail-short, IsFoundCycle-from_trail, IsPlaced-step, waiting_in}
+use Rattle.pyr_graph.proofs.cycle.walk_back.Goals as goal
+use Rattle.pyr_graph.proofs.cycle.walk_back.Goals.{After-index}
+
+-- the task is one of the tasks
+task_in : (c : After-index) → c.loop-first.task.0 < length c.args.pending.now
+task_in c = waiting_in c.args.pending.now c.loop-first.task.0 c.loop-first.invariant.0.stands
+
+-- what the table of the places says of it
+read : (c : After-index) → c.index.result.now ≡ get_or c.loop-first.places.items c.loop-first.task.0 None
+read c = get_or_read c.loop-first.places.items _ _ (omega (arith, task_in c, c.loop-first.invariant.1.full)) c.index.ensures None
+
+pub split_off-requires : goal.split_off-requires
+split_off-requires c =
+    let known = c.loop-first.invariant.1.known c.loop-first.task.0 c.in-Some.first (sym (read (goal.at.split_off-requires c).After-index) ∙ c.in-Some.is) in
+    omega (arith, known.0, length-map c.loop-first.trail.items (λ (t : TaskId). t.0), c.loop-first.trail.ok)
+
+pub returns-in-Some : goal.returns-in-Some
+returns-in-Some c =
+    let known = c.loop-first.invariant.1.known c.loop-first.task.0 c.in-Some.first (sym (read (goal.at.returns-in-Some c).After-index) ∙ c.in-Some.is) in
+    rw (c.from_vec.ensures, c.in_ok-split_off.ensures.tail, ← drop-map (λ (t : TaskId). t.0) c.in-Some.first c.loop-first.trail.items)
+    (IsFoundCycle-from_trail (IsWaiting c.args.pending.now) (Precedes c.args.predecessors.now) (task_numbers c.loop-first.trail.items) c.loop-first.task.0 c.in-Some.first known.0 known.1 c.loop-first.invariant.0)
+
+pub loop-first-smaller : goal.loop-first-smaller
+loop-first-smaller c =
+    let at = (goal.at.loop-first-smaller c).After-index in
+    let new = c.loop-first.invariant.1.new c.loop-first.task.0 (task_in at) (sym (read at) ∙ c.in_default.is) in
+    let short = IsTrail-short (IsWaiting c.args.pending.now) (Precedes c.args.predecessors.now) (length c.args.pending.now) (task_numbers c.loop-first.trail.items) c.loop-first.task.0 (waiting_in c.args.pending.now) c.loop-first.invariant.0 new in
+    omega (arith, short, length-map c.loop-first.trail.items (λ (t : TaskId). t.0), c.in_ok-push.ensures.len, c.loop-first.trail.ok)
+
+pub loop-first-preserved : goal.loop-first-preserved
+loop-first-preserved c =
+    let at = (goal.at.loop-first-preserved c).After-index in
+    let new = c.loop-first.invariant.1.new c.loop-first.task.0 (task_in at) (sym (read at) ∙ c.in_default.is) in
+    let many : c.len.result ≡ length (task_numbers c.loop-first.trail.items) = omega (arith, c.len.ensures, length-map c.loop-first.trail.items (λ (t : TaskId). t.0), c.loop-first.trail.ok) in
+    rw (c.in_ok-push.ensures.items, map_push (λ (t : TaskId). t.0) c.loop-first.trail.items c.loop-first.task, many) (
+      IsTrail-step _ _ _ _ _ new c.loop-first.invariant.0 c.step_back-task.ensures,
+      IsPlaced-step _ _ _ _ (task_in at) c.loop-first.invariant.1,
+    )

@@ -1,0 +1,7 @@
+pub mod System
+pub mod Bounds
+pub mod Removal
+pub mod Faults
+pub mod WholeGraph
+pub mod Laws
+pub mod Tables
