@@ -1,0 +1,10 @@
+pub mod Tree
+pub mod Seen
+pub mod Size
+pub mod Height
+pub mod WellFormed
+pub mod Fault
+pub mod Meaning
+pub mod Stack
+pub mod Verified
+pub mod Running
