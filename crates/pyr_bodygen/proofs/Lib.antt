@@ -1,0 +1,4 @@
+pub mod MeaningLemmas
+pub mod SizeLemmas
+pub mod WellFormedLemmas
+pub mod CodeLemmas
