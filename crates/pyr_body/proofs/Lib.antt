@@ -1,2 +1,15 @@
 pub mod RunLemmas
 pub mod ScopeLemmas
+pub mod Readable
+pub mod DepthLemmas
+pub mod LineLemmas
+pub mod Binding
+pub mod NameLemmas
+pub mod LinesLemmas
+pub mod TreeLines
+pub mod TakingLemmas
+pub mod OutcomeLemmas
+pub mod FinishLemmas
+pub mod WritingLemmas
+pub mod NamedLemmas
+pub mod StandingLemmas

@@ -10,6 +10,7 @@ use Rattle.pyr_body.specs.declared.stmt.Stmt.{Stmt as StmtValue}
 use Rattle.pyr_body.specs.declared.stmt.Stmt.TheOpen.{Set as SetF, Put as PutF, For as ForF}
 use Rattle.pyr_body.specs.declared.stmt.Stmt.TheViews.{roll-Stmt}
 use Rattle.pyr_body.specs.declared.stmt.Stmt.TheFolds.{fold-roll-Stmt}
+use Rattle.pyr_body.specs.contracts.expr.Expr as expr
 use Rattle.pyr_body.specs.contracts.stmt.Stmt as stmt
 use Rattle.pyr_body.specs.Tree.{Expr, Num, Local, Frame, Get, Bin, Sel, Stmt, Set, Put, For, Statements, End, Then}
 use Rattle.pyr_body.specs.Seen.{expr_of, expr_layer, stmt_of, stmt_layer, statements_of}
@@ -64,6 +65,10 @@ mutual
   statements_of-values_from End = refl
   statements_of-values_from (Then s rest) =
       λ i. Then (stmt_of-stmt_from s i) (statements_of-values_from rest i)
+
+-- an expression is stored as a value
+abbrev pub expr_code : Coded Expr
+expr_code = code_by ExprValue expr.the_row.coded expr_from expr_of expr_of-expr_from
 
 -- statements are stored as a list of values
 abbrev pub statements_code : Coded Statements

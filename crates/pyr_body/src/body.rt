@@ -45,9 +45,27 @@ impl Body {
         requires { IsBody (body_of statements.items locals.items reads writes) }
         ensures { result ≡ body_of statements.items locals.items reads writes }
     {
+        Body::from_items(
+            Items::from_vec(statements),
+            Items::from_vec(locals),
+            reads,
+            writes,
+        )
+    }
+
+    // The same, of lists that have that form already.
+    pub(crate) fn from_items(
+        statements: Items<Stmt>,
+        locals: NameList,
+        reads: u32,
+        writes: u32,
+    ) -> Body
+        requires { IsBody (body_of statements locals reads writes) }
+        ensures { result ≡ body_of statements locals reads writes }
+    {
         Body {
-            statements: Items::from_vec(statements),
-            locals: Items::from_vec(locals),
+            statements,
+            locals,
             reads,
             writes,
         }

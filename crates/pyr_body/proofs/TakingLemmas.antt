@@ -1,0 +1,327 @@
+-- What a reading keeps, one line after another.
+use Rattle.std.proofs.Common.{◌≡◌, ℕ, ◌+◌, ◌-◌, ◌<◌, ◌≤◌, List, [], ◌∷◌, ◌++◌, length, take, drop, max, Option, Some, None, Result, Ok, Err, ltb, leb, cond, refl, sym, ap, subst, ◌∙◌, arith, append_assoc, length-append, length-drop, eq-eqb}
+use Rattle.std.specs.Prelude.{◌≢◌}
+use Rattle.std.proofs.lemmas.List.{append-nil, take_all}
+use Rattle.std.proofs.lemmas.Bool.{cond_both, ltb-false, leb-false, ne_eqb}
+use Rattle.pyr_num.specs.declared.limits.TheConstants.Limits.{DEPTH, NODES, LOOPS, COUNT, LOCALS}
+use Rattle.pyr_num.specs.declared.name.Name.{Name}
+use Rattle.pyr_body.specs.declared.line_fault.LineFault.{LineFault}
+use Rattle.pyr_body.specs.declared.line_fault.LineFault.TheVariants as faults
+use Rattle.pyr_body.specs.declared.open_loop.OpenLoop.{OpenLoop}
+use Rattle.pyr_body.specs.declared.expr.Expr.{Expr as ExprValue}
+use Rattle.pyr_body.specs.declared.stmt.Stmt.{Stmt as StmtValue}
+use Rattle.pyr_body.specs.declared.stmt.Stmt.TheVariants as statements
+use Rattle.pyr_body.specs.declared.stmt.Stmt.TheVariants.{rolls-Set, rolls-Put, rolls-For}
+use Rattle.pyr_body.specs.declared.stmt.Stmt.TheOpen.{Set as SetF, Put as PutF, For as ForF}
+use Rattle.pyr_body.specs.declared.stmt.Stmt.TheFolds.{fold-roll-Stmt}
+use Rattle.pyr_body.specs.Tree.{Expr, Stmt}
+use Rattle.pyr_body.specs.Tree as tree
+use Rattle.pyr_body.specs.Scope.{IsScoped}
+use Rattle.pyr_body.specs.Seen.{expr_of, stmt_of, stmt_layer, statements_of}
+use Rattle.pyr_body.specs.Body.{AreDistinct}
+use Rattle.pyr_body.specs.Lines.{Line, SetLine, PutLine, ForLine, DoneLine, stmt_lines, lines_of, line_nodes, lines_nodes, line_brackets, lines_depth, line_count, lines_count, opened_after, loops_open, loops_from, numbered_after, all_numbered_after, IsInOrder, AreInOrder}
+use Rattle.pyr_body.specs.Written.{WrittenExpr, written_nodes, written_brackets}
+use Rattle.pyr_body.specs.Names.{◌>>=◌, index_of, known, resolved}
+use Rattle.pyr_body.specs.Taking.{LinesTaken, nodes_fit, loop_fits, local_fits, numbered, with_line, with_numbered, after_set, after_put, after_for, after_done}
+use Rattle.pyr_body.specs.Kept.{outer_lines, lines_in, taken_by, IsKept}
+use Rattle.pyr_body.proofs.ScopeLemmas.{all_numbered_after-append}
+use Rattle.pyr_body.proofs.Binding.{ok_of, bind_is}
+use Rattle.pyr_body.proofs.NameLemmas.{known_there, resolved_is, numbered_is}
+use Rattle.pyr_body.proofs.LinesLemmas.{lines_nodes-append, lines_depth-append, lines_count-append, all_opened_after-append, loops_from-append, AreInOrder-append, lines_of-append, lines_in-append, outer_lines-append}
+
+-- what lines come to
+abbrev at_lines : ℕ → List Name → ℕ → List Name → List Line → LinesTaken
+at_lines reads slots nodes_before locals lines =
+    record { reads = reads; slots = slots; nodes_before = nodes_before; locals = locals; lines = lines }
+
+-- a line that may come next
+pub record IsNext (reads : ℕ) (slots locals locals' : List Name) (x : Line) : Type 0 where
+  pub order : IsInOrder reads (length slots - reads) x (length locals)
+  pub numbered : numbered_after x (length locals) ≡ length locals'
+  pub few_locals : length locals' ≤ LOCALS
+  pub distinct : AreDistinct locals'
+  pub brackets : line_brackets x ≤ DEPTH
+  pub count : line_count x ≤ COUNT
+
+-- what a reading keeps, it keeps with a line more
+pub kept_step : (reads : ℕ) (slots : List Name) (nodes_before : ℕ) (locals locals' : List Name) (lines lines' : List Line) (loops loops' nodes nodes' : ℕ) (x : Line)
+    → IsKept (at_lines reads slots nodes_before locals lines) loops nodes
+    → IsNext reads slots locals locals' x
+    → lines' ≡ lines ++ x ∷ []
+    → loops' ≡ opened_after x loops → loops' ≤ LOOPS
+    → nodes' ≡ nodes + line_nodes x → nodes' ≤ NODES
+    → IsKept (at_lines reads slots nodes_before locals' lines') loops' nodes'
+kept_step reads slots nodes_before locals locals' lines lines' loops loops' nodes nodes' x k next e opened few_loops counted few_nodes =
+    let n : lines_nodes lines' ≡ lines_nodes (lines ++ x ∷ []) = ap lines_nodes e in
+    let o : loops_open lines' ≡ opened_after x (loops_open lines) = ap loops_open e ∙ all_opened_after-append lines (x ∷ []) 0 in
+    let p : opened_after x loops ≡ opened_after x (loops_open lines) = ap (opened_after x) k.loops_counted in
+    let nested : loops_from lines' 0 ≡ max (loops_from lines 0) (loops_from (x ∷ []) (loops_open lines)) = ap (λ ls. loops_from ls 0) e ∙ loops_from-append lines (x ∷ []) 0 in
+    let counts : lines_count lines' ≡ max (lines_count lines) (lines_count (x ∷ [])) = ap lines_count e ∙ lines_count-append lines (x ∷ []) in
+    let depths : lines_depth lines' ≡ max (lines_depth lines) (lines_depth (x ∷ [])) = ap lines_depth e ∙ lines_depth-append lines (x ∷ []) in
+    let at : IsInOrder reads (length slots - reads) x (all_numbered_after lines 0) = subst (IsInOrder reads (length slots - reads) x) (sym k.numbered) next.order in
+    record {
+      nodes_counted = omega (arith, k.nodes_counted, n, counted, lines_nodes-append lines (x ∷ []));
+      few_nodes = few_nodes;
+      loops_counted = opened ∙ p ∙ sym o;
+      few_loops = few_loops;
+      loops_nested = omega (arith, nested, k.loops_nested, opened, p, few_loops, k.loops_counted, k.few_loops);
+      small_counts = omega (arith, counts, k.small_counts, next.count);
+      shallow = omega (arith, depths, k.shallow, next.brackets);
+      few_locals = next.few_locals;
+      distinct_locals = next.distinct;
+      slots_split = k.slots_split;
+      few_slots = k.few_slots;
+      few_before = k.few_before;
+      order = subst (λ ls. AreInOrder reads (length slots - reads) ls 0) (sym e) (AreInOrder-append reads (length slots - reads) lines (x ∷ []) 0 k.order (at, tt));
+      numbered = ap (λ ls. all_numbered_after ls 0) e ∙ all_numbered_after-append lines (x ∷ []) 0 ∙ ap (numbered_after x) k.numbered ∙ next.numbered;
+    }
+
+-- the tests of the limits
+nodes_fit-ok : (nodes_before nodes added : ℕ) → nodes_fit nodes_before nodes added ≡ Ok tt → nodes + added ≤ NODES
+nodes_fit-ok nodes_before nodes added =
+    cond_both (ltb NODES (nodes + added)) _ _ (λ (r : Result (Unit {0}) LineFault). r ≡ Ok tt → nodes + added ≤ NODES)
+    (λ e. λ h. absurd cc)
+    (λ e. λ h. ltb-false NODES (nodes + added) e)
+
+loop_fits-ok : (loops count : ℕ) → loop_fits loops count ≡ Ok tt → (loops < LOOPS) × (count ≤ COUNT)
+loop_fits-ok loops count =
+    cond_both (leb LOOPS loops) _ _ (λ (r : Result (Unit {0}) LineFault). r ≡ Ok tt → (loops < LOOPS) × (count ≤ COUNT))
+    (λ e. λ h. absurd cc)
+    (λ e. cond_both (ltb COUNT count) _ _ (λ (r : Result (Unit {0}) LineFault). r ≡ Ok tt → (loops < LOOPS) × (count ≤ COUNT))
+    (λ f. λ h. absurd cc)
+    (λ f. λ h. (leb-false LOOPS loops e, ltb-false COUNT count f)))
+
+local_fits-ok : (name : Name) (locals : List Name) (o : Option ℕ) → length locals ≤ LOCALS → local_fits locals o ≡ Ok tt → length (numbered name locals o).1 ≤ LOCALS
+local_fits-ok name locals (Some i) l h = l
+local_fits-ok name locals None l h =
+    let go : local_fits locals None ≡ Ok tt → length (locals ++ name ∷ []) ≤ LOCALS =
+    cond_both (leb LOCALS (length locals)) _ _ (λ (r : Result (Unit {0}) LineFault). r ≡ Ok tt → length (locals ++ name ∷ []) ≤ LOCALS)
+    (λ e. λ h. absurd cc)
+    (λ e. λ h. omega (arith, leb-false LOCALS (length locals) e, length-append locals (name ∷ []))) in
+    go h
+
+-- the trees of new statements
+stmt_of-Set : (l : ℕ) (x : ExprValue) → stmt_of (statements.Set l x) ≡ tree.Set l (expr_of x)
+stmt_of-Set l x = ap stmt_of (sym (rolls-Set l x)) ∙ fold-roll-Stmt Stmt stmt_layer (SetF l x)
+
+stmt_of-Put : (o : ℕ) (i x : ExprValue) → stmt_of (statements.Put o i x) ≡ tree.Put o (expr_of i) (expr_of x)
+stmt_of-Put o i x = ap stmt_of (sym (rolls-Put o i x)) ∙ fold-roll-Stmt Stmt stmt_layer (PutF o i x)
+
+stmt_of-For : (l n : ℕ) (turn : List StmtValue) → stmt_of (statements.For l n turn) ≡ tree.For l n (statements_of turn)
+stmt_of-For l n turn = ap stmt_of (sym (rolls-For l n turn)) ∙ fold-roll-Stmt Stmt stmt_layer (ForF l n turn)
+
+-- the slots are the reads and the writes
+whole : (reads : ℕ) (slots : List Name) → reads ≤ length slots → length slots ≡ reads + (length slots - reads)
+whole reads slots l = omega arith
+
+-- what a reading of other fields comes to
+pub record IsTaken (before : Result LinesTaken LineFault) (after : LinesTaken) (loops nodes : ℕ) : Type 0 where
+  pub kept : IsKept after loops nodes
+  pub is : before ≡ Ok after
+
+module _ (reads : ℕ) (slots : List Name) (nodes_before : ℕ) (locals : List Name) (outer : List OpenLoop) (current : List StmtValue) (nodes : ℕ) (k : IsKept (taken_by reads slots nodes_before locals outer current) (length outer) nodes) where
+  abbrev before : LinesTaken
+  before = taken_by reads slots nodes_before locals outer current
+
+  -- the lines before are counted
+  fits_now : (added : ℕ) → nodes_fit nodes_before nodes added ≡ Ok tt → nodes_fit nodes_before (lines_nodes (lines_in outer current)) added ≡ Ok tt
+  fits_now added fits = ap (λ n. nodes_fit nodes_before n added) (sym k.nodes_counted) ∙ fits
+
+  -- a local that has or gets a number
+  module _ (name : Name) (us : List Name) (is_us : us ≡ locals) (fits : local_fits us (index_of name us) ≡ Ok tt) (l : ℕ) (locals' : List Name) (number : numbered name locals (index_of name locals) ≡ (l, locals')) where
+    local_now : local_fits locals (index_of name locals) ≡ Ok tt
+    local_now = ap (λ u. local_fits u (index_of name u)) (sym is_us) ∙ fits
+
+    pub record IsNewLocal : Type 0 where
+      pub next : l ≤ length locals
+      pub count : max (length locals) (l + 1) ≡ length locals'
+      pub distinct : AreDistinct locals'
+      pub few : length locals' ≤ LOCALS
+
+    local_new : IsNewLocal
+    local_new =
+        let n = numbered_is name locals (index_of name locals) refl in
+        let first : (numbered name locals (index_of name locals)).0 ≡ l = ap (λ (p : ℕ × List Name). p.0) number in
+        let second : (numbered name locals (index_of name locals)).1 ≡ locals' = ap (λ (p : ℕ × List Name). p.1) number in
+        let longer : length (numbered name locals (index_of name locals)).1 ≡ length locals' = ap (λ (ls : List Name). length ls) second in
+        record {
+          next = omega (arith, n.next, first);
+          count = omega (arith, n.count, first, longer);
+          distinct = subst AreDistinct second (n.distinct k.distinct_locals);
+          few = omega (arith, longer, local_fits-ok name locals (index_of name locals) k.few_locals local_now);
+        }
+
+  -- a `set`
+  module _ (s : ℕ) (name : Name) (e : WrittenExpr) (x : ExprValue) (l : ℕ) (locals' : List Name) (current' : List StmtValue) (us vs ws : List Name)
+      (fits : nodes_fit nodes_before nodes (1 + s) ≡ Ok tt) (sized : s ≡ written_nodes e)
+      (is_us : us ≡ locals) (local : local_fits us (index_of name us) ≡ Ok tt)
+      (is_vs : vs ≡ locals) (is_ws : ws ≡ slots) (known_all : resolved vs ws e ≡ Ok (expr_of x))
+      (number : numbered name locals (index_of name locals) ≡ (l, locals')) (pushed : current' ≡ current ++ statements.Set l x ∷ [])
+      (deep : written_brackets e ≤ DEPTH) where
+    set_found : resolved locals slots e ≡ Ok (expr_of x)
+    set_found = ap (λ v. resolved v slots e) (sym is_vs) ∙ ap (λ w. resolved vs w e) (sym is_ws) ∙ known_all
+
+    set_lines : lines_in outer current' ≡ lines_in outer current ++ SetLine l (expr_of x) ∷ []
+    set_lines =
+        ap (lines_in outer) pushed
+        ∙ lines_in-append outer current (statements.Set l x)
+        ∙ ap (λ t. lines_in outer current ++ stmt_lines t) (stmt_of-Set l x)
+
+    pub set_taken : IsTaken (after_set before name e) (taken_by reads slots nodes_before locals' outer current') (length outer) (nodes + (1 + s))
+    set_taken =
+        let n = local_new name us is_us local l locals' number in
+        let r = resolved_is locals slots e (expr_of x) set_found in
+        let next : IsNext reads slots locals locals' (SetLine l (expr_of x)) = record {
+          order = (n.next, subst (λ m. IsScoped m (length locals) (expr_of x)) (whole reads slots k.slots_split) r.scoped);
+          numbered = n.count;
+          few_locals = n.few;
+          distinct = n.distinct;
+          brackets = omega (arith, r.brackets, deep);
+          count = omega arith;
+        } in
+        record {
+          kept = kept_step reads slots nodes_before locals locals' (lines_in outer current) (lines_in outer current') (length outer) (length outer) nodes (nodes + (1 + s)) (SetLine l (expr_of x)) k next set_lines refl k.few_loops (omega (arith, r.nodes, sized)) (nodes_fit-ok nodes_before nodes (1 + s) fits);
+          is =
+              bind_is (nodes_fit nodes_before (lines_nodes (lines_in outer current)) (1 + written_nodes e)) (λ a. local_fits locals (index_of name locals) >>= λ b. resolved locals slots e >>= λ y. Ok (with_numbered before name (λ m. SetLine m y))) tt _
+              (ap (λ m. nodes_fit nodes_before (lines_nodes (lines_in outer current)) (1 + m)) (sym sized) ∙ fits_now (1 + s) fits)
+              (bind_is (local_fits locals (index_of name locals)) (λ b. resolved locals slots e >>= λ y. Ok (with_numbered before name (λ m. SetLine m y))) tt _ (local_now name us is_us local l locals' number)
+              (bind_is (resolved locals slots e) (λ y. Ok (with_numbered before name (λ m. SetLine m y))) (expr_of x) _ set_found
+              (ap (λ (p : ℕ × List Name). ok_of (with_line before p.1 (SetLine p.0 (expr_of x)))) number
+              ∙ ap (λ ls. ok_of (at_lines reads slots nodes_before locals' ls)) (sym set_lines))));
+        }
+
+  -- a `put`
+  module _ (s t : ℕ) (name : Name) (index e : WrittenExpr) (i x : ExprValue) (o : ℕ) (current' : List StmtValue) (us vs ws vs' ws' : List Name)
+      (fits : nodes_fit nodes_before nodes (1 + s + t) ≡ Ok tt) (sized : s ≡ written_nodes index) (sized' : t ≡ written_nodes e)
+      (is_us : us ≡ drop reads slots) (output : known name us ≡ Ok o)
+      (is_vs : vs ≡ locals) (is_ws : ws ≡ slots) (known_index : resolved vs ws index ≡ Ok (expr_of i))
+      (is_vs' : vs' ≡ locals) (is_ws' : ws' ≡ slots) (known_all : resolved vs' ws' e ≡ Ok (expr_of x))
+      (pushed : current' ≡ current ++ statements.Put o i x ∷ [])
+      (deep : 1 + written_brackets index ≤ DEPTH) (deep' : written_brackets e ≤ DEPTH) where
+    put_index : resolved locals slots index ≡ Ok (expr_of i)
+    put_index = ap (λ v. resolved v slots index) (sym is_vs) ∙ ap (λ w. resolved vs w index) (sym is_ws) ∙ known_index
+
+    put_found : resolved locals slots e ≡ Ok (expr_of x)
+    put_found = ap (λ v. resolved v slots e) (sym is_vs') ∙ ap (λ w. resolved vs' w e) (sym is_ws') ∙ known_all
+
+    put_output : known name (drop reads slots) ≡ Ok o
+    put_output = ap (known name) (sym is_us) ∙ output
+
+    put_lines : lines_in outer current' ≡ lines_in outer current ++ PutLine o (expr_of i) (expr_of x) ∷ []
+    put_lines =
+        ap (lines_in outer) pushed
+        ∙ lines_in-append outer current (statements.Put o i x)
+        ∙ ap (λ t. lines_in outer current ++ stmt_lines t) (stmt_of-Put o i x)
+
+    pub put_taken : IsTaken (after_put before name index e) (taken_by reads slots nodes_before locals outer current') (length outer) (nodes + (1 + s + t))
+    put_taken =
+        let q = resolved_is locals slots index (expr_of i) put_index in
+        let r = resolved_is locals slots e (expr_of x) put_found in
+        let w = whole reads slots k.slots_split in
+        let there = known_there name (drop reads slots) o put_output in
+        let next : IsNext reads slots locals locals (PutLine o (expr_of i) (expr_of x)) = record {
+          order = (omega (arith, there.within, length-drop reads slots), subst (λ m. IsScoped m (length locals) (expr_of i)) w q.scoped, subst (λ m. IsScoped m (length locals) (expr_of x)) w r.scoped);
+          numbered = refl;
+          few_locals = k.few_locals;
+          distinct = k.distinct_locals;
+          brackets = omega (arith, q.brackets, r.brackets, deep, deep');
+          count = omega arith;
+        } in
+        record {
+          kept = kept_step reads slots nodes_before locals locals (lines_in outer current) (lines_in outer current') (length outer) (length outer) nodes (nodes + (1 + s + t)) (PutLine o (expr_of i) (expr_of x)) k next put_lines refl k.few_loops (omega (arith, q.nodes, r.nodes, sized, sized')) (nodes_fit-ok nodes_before nodes (1 + s + t) fits);
+          is =
+              bind_is (nodes_fit nodes_before (lines_nodes (lines_in outer current)) (1 + written_nodes index + written_nodes e)) (λ a. known name (drop reads slots) >>= λ p. resolved locals slots index >>= λ u. resolved locals slots e >>= λ y. Ok (with_line before locals (PutLine p u y))) tt _
+              (ap (λ m. nodes_fit nodes_before (lines_nodes (lines_in outer current)) (1 + m + written_nodes e)) (sym sized) ∙ ap (λ m. nodes_fit nodes_before (lines_nodes (lines_in outer current)) (1 + s + m)) (sym sized') ∙ fits_now (1 + s + t) fits)
+              (bind_is (known name (drop reads slots)) (λ p. resolved locals slots index >>= λ u. resolved locals slots e >>= λ y. Ok (with_line before locals (PutLine p u y))) o _ put_output
+              (bind_is (resolved locals slots index) (λ u. resolved locals slots e >>= λ y. Ok (with_line before locals (PutLine o u y))) (expr_of i) _ put_index
+              (bind_is (resolved locals slots e) (λ y. Ok (with_line before locals (PutLine o (expr_of i) y))) (expr_of x) _ put_found
+              (ap (λ ls. ok_of (at_lines reads slots nodes_before locals ls)) (sym put_lines)))));
+        }
+
+  -- a `for`
+  module _ (loops : ℕ) (name : Name) (l n : ℕ) (locals' us : List Name) (front empty : List StmtValue) (outer' : List OpenLoop)
+      (fits : nodes_fit nodes_before nodes 1 ≡ Ok tt) (is_loops : loops ≡ length outer) (room : loop_fits loops n ≡ Ok tt)
+      (is_us : us ≡ locals) (local : local_fits us (index_of name us) ≡ Ok tt)
+      (number : numbered name locals (index_of name locals) ≡ (l, locals')) (is_front : front ≡ current) (is_empty : empty ≡ [])
+      (pushed : outer' ≡ outer ++ (let o : OpenLoop = record { before = front; local = l; count = n } in o) ∷ []) where
+    for_lines : lines_in outer' empty ≡ lines_in outer current ++ ForLine l n ∷ []
+    for_lines =
+        ap (λ e. lines_in outer' e) is_empty
+        ∙ append-nil (outer_lines outer')
+        ∙ ap outer_lines pushed
+        ∙ outer_lines-append outer (record { before = front; local = l; count = n })
+        ∙ ap (λ f. outer_lines outer ++ (lines_of (statements_of f) ++ (ForLine l n ∷ []))) is_front
+        ∙ sym (append_assoc (outer_lines outer) (lines_of (statements_of current)) (ForLine l n ∷ []))
+
+    pub for_taken : IsTaken (after_for before name n) (taken_by reads slots nodes_before locals' outer' empty) (length outer') (nodes + 1)
+    for_taken =
+        let m = local_new name us is_us local l locals' number in
+        let r = loop_fits-ok loops n room in
+        let longer : length outer' ≡ length outer + 1 = ap (λ (os : List OpenLoop). length os) pushed ∙ length-append outer _ in
+        let next : IsNext reads slots locals locals' (ForLine l n) = record {
+          order = m.next;
+          numbered = m.count;
+          few_locals = m.few;
+          distinct = m.distinct;
+          brackets = omega arith;
+          count = r.1;
+        } in
+        let open_now : loop_fits (loops_open (lines_in outer current)) n ≡ Ok tt = ap (λ j. loop_fits j n) (sym k.loops_counted) ∙ ap (λ j. loop_fits j n) (sym is_loops) ∙ room in
+        record {
+          kept = kept_step reads slots nodes_before locals locals' (lines_in outer current) (lines_in outer' empty) (length outer) (length outer') nodes (nodes + 1) (ForLine l n) k next for_lines longer (omega (arith, longer, r.0, is_loops)) refl (nodes_fit-ok nodes_before nodes 1 fits);
+          is =
+              bind_is (nodes_fit nodes_before (lines_nodes (lines_in outer current)) 1) (λ a. loop_fits (loops_open (lines_in outer current)) n >>= λ b. local_fits locals (index_of name locals) >>= λ d. Ok (with_numbered before name (λ j. ForLine j n))) tt _ (fits_now 1 fits)
+              (bind_is (loop_fits (loops_open (lines_in outer current)) n) (λ b. local_fits locals (index_of name locals) >>= λ d. Ok (with_numbered before name (λ j. ForLine j n))) tt _ open_now
+              (bind_is (local_fits locals (index_of name locals)) (λ d. Ok (with_numbered before name (λ j. ForLine j n))) tt _ (local_now name us is_us local l locals' number)
+              (ap (λ (p : ℕ × List Name). ok_of (with_line before p.1 (ForLine p.0 n))) number
+              ∙ ap (λ ls. ok_of (at_lines reads slots nodes_before locals' ls)) (sym for_lines))));
+        }
+
+  -- a `done`
+  module _ (outer' : List OpenLoop) (o : OpenLoop) (turn current' : List StmtValue)
+      (popped : outer ≡ outer' ++ o ∷ []) (is_turn : turn ≡ current) (pushed : current' ≡ o.before ++ statements.For o.local o.count turn ∷ []) where
+    done_lines : lines_in outer' current' ≡ lines_in outer current ++ DoneLine ∷ []
+    done_lines =
+        let us : List Line = outer_lines outer' in
+        let vs : List Line = lines_of (statements_of o.before) in
+        let ws : List Line = lines_of (statements_of current) in
+        let f : Line = ForLine o.local o.count in
+        let left : lines_in outer' current' ≡ us ++ (vs ++ (f ∷ (ws ++ DoneLine ∷ []))) =
+        ap (lines_in outer') pushed
+        ∙ ap (λ l. us ++ l) (lines_of-append o.before (statements.For o.local o.count turn)
+        ∙ ap (λ t. vs ++ stmt_lines t) (stmt_of-For o.local o.count turn)
+        ∙ ap (λ t. vs ++ (f ∷ (lines_of (statements_of t) ++ DoneLine ∷ []))) is_turn) in
+        let right : lines_in outer current ≡ (us ++ (vs ++ (f ∷ []))) ++ ws = ap (λ os. outer_lines os ++ ws) popped ∙ ap (λ l. l ++ ws) (outer_lines-append outer' o) in
+        let regrouped : ((us ++ (vs ++ (f ∷ []))) ++ ws) ++ DoneLine ∷ [] ≡ us ++ (vs ++ (f ∷ (ws ++ DoneLine ∷ []))) = simp append_assoc in
+        left ∙ sym regrouped ∙ ap (λ l. l ++ DoneLine ∷ []) (sym right)
+
+    pub done_taken : IsTaken (after_done before) (taken_by reads slots nodes_before locals outer' current') (length outer') nodes
+    done_taken =
+        let one_more : length outer ≡ length outer' + 1 = ap (λ (os : List OpenLoop). length os) popped ∙ length-append outer' (o ∷ []) in
+        let some : loops_open (lines_in outer current) ≢ 0 = λ e. omega (arith, e, one_more, k.loops_counted) in
+        let next : IsNext reads slots locals locals DoneLine = record {
+          order = tt;
+          numbered = refl;
+          few_locals = k.few_locals;
+          distinct = k.distinct_locals;
+          brackets = omega arith;
+          count = omega arith;
+        } in
+        record {
+          kept = kept_step reads slots nodes_before locals locals (lines_in outer current) (lines_in outer' current') (length outer) (length outer') nodes nodes DoneLine k next done_lines (omega (arith, one_more)) (omega (arith, one_more, k.few_loops)) (omega arith) k.few_nodes;
+          is =
+              ap (λ b. cond b (Err faults.Text) (Ok (with_line before locals DoneLine))) (ne_eqb (loops_open (lines_in outer current)) 0 some)
+              ∙ ap (λ ls. ok_of (at_lines reads slots nodes_before locals ls)) (sym done_lines);
+        }
+
+  -- a `done` where no loop is open
+  pub none_open : outer ≡ [] → after_done before ≡ Err faults.Text
+  none_open e =
+      let none : loops_open (lines_in outer current) ≡ 0 = sym k.loops_counted ∙ ap (λ (os : List OpenLoop). length os) e in
+      ap (λ b. cond b (Err faults.Text) (Ok (with_line before locals DoneLine))) (eq-eqb (loops_open (lines_in outer current)) 0 none)
+
+-- a slice from a place to the end
+pub tail_is : (n : ℕ) (s xs : List Name) → s ≡ xs → take (length s - n) (drop n s) ≡ drop n xs
+tail_is n s xs e =
+    let l : length (drop n s) ≤ length s - n = omega (arith, length-drop n s) in
+    take_all (length s - n) (drop n s) l ∙ ap (drop n) e
