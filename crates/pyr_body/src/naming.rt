@@ -10,7 +10,8 @@ use pyr_num::Name;
 use sqlite_items::Boxed;
 use std::alloc::Global;
 
-/// The first place of a name.
+/// The first place of a name. It is sought from the front: locals are at most `Limits::LOCALS`, and
+/// only one task of a graph can have many slots, since each datum is written once.
 pub fn index_of(name: Name, names: &[Name]) -> Option<u32>
     requires { length names.now < 2 ^ 32 }
     ensures { result ≡ index_of name names.now }
