@@ -1,4 +1,5 @@
 pub mod System
+pub mod Clusters
 pub mod Bounds
 pub mod Removal
 pub mod Faults
