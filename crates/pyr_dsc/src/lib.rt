@@ -1,0 +1,17 @@
+//! Clustering by dominant sequences: which tasks are to run on one processor, before the number of
+//! processors is known (after Yang and Gerasoulis, 1994).
+#![tactic(auto)]
+
+mod clustering;
+mod head;
+mod laws;
+mod placing;
+mod priorities;
+mod progress;
+mod turn;
+
+pub use clustering::cluster;
+pub use laws::{a_graph_has_one_run, runs_keep_time, steps_keep_time};
+
+#[cfg(test)]
+mod tests;
