@@ -10,6 +10,5 @@ pub mod TreeLines
 pub mod TakingLemmas
 pub mod OutcomeLemmas
 pub mod FinishLemmas
-pub mod WritingLemmas
 pub mod NamedLemmas
 pub mod StandingLemmas

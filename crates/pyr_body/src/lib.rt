@@ -13,7 +13,6 @@ mod expressions;
 mod laws;
 mod line_fault;
 mod line_forms;
-mod line_writing;
 mod naming;
 mod open_loop;
 mod operators;

@@ -11,10 +11,9 @@ ghost use Rattle.pyr_body.specs.Named.{name_at, with_names};
 ghost use Rattle.pyr_body.specs.RoundTrip.{IsReadAgain};
 ghost use Rattle.pyr_body.specs.Printed.{named_tokens, lines_text, AreLineTokens, body_text};
 
-use crate::line_writing::write_line;
 use crate::operators::operator_token;
 use crate::{Body, Expr, SlotNames, Stmt};
-use pyr_lex::{Symbol, Token, Word};
+use pyr_lex::{Symbol, Token, Word, write_line};
 use pyr_num::Name;
 use sqlite_items::Items;
 use std::alloc::{AllocError, Global};
@@ -25,6 +24,8 @@ pub fn print_body(alloc: Global, body: &Body, names: &SlotNames) -> Result<Vec<u
     requires writes { length names.now.writes ≡ body.now.writes }
     ensures text { IfOk result (λ text. text.items
         ≡ body_text body.now names.now.reads names.now.writes) }
+    ensures tokens { OnOk result (AreLineTokens body.now.locals names.now.reads names.now.writes
+        (lines_of body.now.statements)) }
     ensures read_again { OnOk result (IsReadAgain body.now names.now.reads names.now.writes) }
 {
     let mut out = Vec::new(alloc);

@@ -7,3 +7,4 @@ pub mod Numbers
 pub mod Runs
 pub mod Steps
 pub mod Written
+pub mod WritingLemmas

@@ -1,12 +1,13 @@
 //! The lexer: the tokens of a line of a graph text, with the place of each, or the answer that the
-//! line has none; and how many of its brackets are open at once. What a line's tokens are stands in
-//! `specs/Line.antt`, and that this decides them is a law.
+//! line has none; how many of its brackets are open at once; and tokens written out as canonical
+//! text. What a line's tokens are stands in `specs/Line.antt`, and that this decides them is a law.
 #![tactic(auto)]
 
 mod brackets;
 mod laws;
 mod lex_fault;
 mod lexer;
+mod line_writing;
 mod numeral;
 mod spanned_token;
 mod symbol;
@@ -19,6 +20,7 @@ pub use laws::{
 };
 pub use lex_fault::LexFault;
 pub use lexer::tokens;
+pub use line_writing::write_line;
 pub use numeral::number;
 pub use spanned_token::SpannedToken;
 pub use symbol::Symbol;

@@ -1,4 +1,4 @@
-use crate::{SpannedToken, Symbol, Token, Word, depth, number, tokens};
+use crate::{SpannedToken, Symbol, Token, Word, depth, number, tokens, write_line};
 use pyr_num::Limits;
 use std::alloc::{AllocError, Global};
 use std::process::Abort;
@@ -157,6 +157,28 @@ fn counts_open_brackets(rt: HostRuntime) -> Result<(), Fail> {
             return Err("no tokens")?;
         };
         assert_eq!(rt; depth(found.as_slice()), expected, "at {line:?}");
+    }
+    Ok(())
+}
+
+#[test]
+fn writes_canonical_lines(rt: HostRuntime) -> Result<(), Fail> {
+    for (line, expected) in [
+        (b"  # nothing".as_slice(), b"\n".as_slice()),
+        (b"data\tx 1  0 # a datum", b"data x 1 0\n"),
+        (b"put x [ 0 ]=( y[ i ]==3 )", b"put x[0] = (y[i] == 3)\n"),
+        (b"set a=((1)?2<<3:(4))", b"set a = ((1) ? 2 << 3 : (4))\n"),
+    ] {
+        let Ok(found) = tokens(rt.alloc(), line, 1) else {
+            return Err("no tokens")?;
+        };
+        let mut plain = Vec::new(rt.alloc());
+        for spanned in &found {
+            plain.push(spanned.token)?;
+        }
+        let mut out = Vec::new(rt.alloc());
+        write_line(&mut out, plain.as_slice())?;
+        assert_eq!(rt; out.as_slice(), expected, "at {line:?}");
     }
     Ok(())
 }

@@ -1,8 +1,8 @@
 use Rattle.std.proofs.Common.{◌≡◌, ◌++◌, drop}
 use Rattle.pyr_lex.specs.Token.{AreTokens}
 use Rattle.pyr_lex.specs.Spacing.{canonical_line}
-use Rattle.pyr_body.proofs.WritingLemmas.{rest_text}
-use Rattle.pyr_body.proofs.line_writing.write_line.Given as goal
+use Rattle.pyr_lex.proofs.WritingLemmas.{rest_text}
+use Rattle.pyr_lex.proofs.line_writing.write_line.Given as goal
 
 abbrev pub invariant-loop-token : goal.invariant-loop-token
 invariant-loop-token l = record {
