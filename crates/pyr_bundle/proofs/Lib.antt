@@ -1,0 +1,16 @@
+pub mod Scans
+pub mod Instrs
+pub mod Seen
+pub mod Stamps
+pub mod AccessLemmas
+pub mod CountLemmas
+pub mod FaultPlaces
+pub mod ChannelLemmas
+pub mod LinkLemmas
+pub mod Causes
+pub mod Typed
+pub mod PartsLemmas
+pub mod Sums
+pub mod WellFormedLemmas
+pub mod ValueLemmas
+pub mod OneFault

@@ -1,0 +1,9 @@
+pub mod Law
+pub mod Raw
+pub mod Laws
+pub mod Faults
+pub mod Parts
+pub mod WellFormed
+pub mod Values
+pub mod Tables
+pub mod Links

@@ -1,0 +1,12 @@
+use pyr_num::{DatumId, ProcId, TaskId};
+
+/// An instruction of a processor.
+#[derive(Clone, Copy, Debug, PartialEq, Eq, Hash)]
+pub enum Instr {
+    /// Waits for a datum from another processor.
+    Recv { from: ProcId, datum: DatumId },
+    /// Executes a task.
+    Exec { task: TaskId },
+    /// Sends a datum to another processor.
+    Send { to: ProcId, datum: DatumId },
+}

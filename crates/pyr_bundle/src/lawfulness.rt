@@ -1,0 +1,38 @@
+// All laws, from the first to the last.
+ghost use Rattle.std.specs.Prelude.{◌≡◌, map, IfOk, OnOk, IfErr};
+ghost use Rattle.pyr_bundle.specs.Raw.{IsWithinLimits};
+ghost use Rattle.pyr_bundle.specs.Faults.{IsLawful, IsCause};
+ghost use Rattle.pyr_bundle.specs.Parts.{bundle_task_of};
+
+use crate::channels::{check_capacities, check_channels, links_of};
+use crate::codes::checked_tasks;
+use crate::counts::{check_executions, check_writers};
+use crate::names::check_names;
+use crate::numbers::{check_accesses, check_prints};
+use crate::operands::check_operands;
+use crate::receives::check_receives;
+use crate::sends::check_sends;
+use crate::{BundleFault, BundleTask, RawBundle};
+use std::alloc::Global;
+
+/// The tasks with their code checked, where every law is kept.
+pub(crate) fn lawful_tasks(alloc: Global, raw: &RawBundle) -> Result<Vec<BundleTask>, BundleFault>
+    requires { IsWithinLimits raw.now }
+    ensures value { IfOk result (λ tasks. tasks.items ≡ map bundle_task_of raw.now.tasks) }
+    ensures lawful { OnOk result (IsLawful raw.now) }
+    ensures fault { IfErr result (IsCause raw.now) }
+{
+    check_names(alloc, raw)?;
+    check_accesses(alloc, raw)?;
+    check_writers(alloc, raw)?;
+    let tasks = checked_tasks(alloc, raw)?;
+    check_prints(alloc, raw)?;
+    check_operands(raw)?;
+    check_executions(alloc, raw)?;
+    check_sends(alloc, raw)?;
+    check_receives(alloc, raw)?;
+    let links = links_of(alloc, raw)?;
+    check_channels(raw, &links)?;
+    check_capacities(raw, &links)?;
+    Ok(tasks)
+}
