@@ -1,0 +1,8 @@
+use Rattle.std.proofs.Common.{◌≡◌, take}
+use Rattle.pyr_graph.specs.System.{datum_numbers}
+use Rattle.pyr_graphtext.specs.Running.{inputs_from}
+use Rattle.pyr_graphtext.proofs.running.add_inputs.Given as goal
+
+abbrev pub invariant-loop-datum : goal.invariant-loop-datum
+invariant-loop-datum l =
+    l.cells ≡ record l.initial.cells { inputs = inputs_from l.table (datum_numbers (take l.datum-index l.datums)) }

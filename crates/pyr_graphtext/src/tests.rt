@@ -1,0 +1,176 @@
+use crate::{Program, ProgramFault, print_program, read_program, sequential};
+use pyr_num::{Limits, Name, Outputs};
+use std::alloc::{AllocError, Global};
+use std::process::Abort;
+use std::test::Fail;
+
+fn read(rt: &impl Abort, alloc: Global, text: &str) -> Result<Program, ProgramFault> {
+    let bytes = text.as_bytes();
+    assert!(rt; bytes.len() <= Limits::INPUT);
+    read_program(alloc, bytes)
+}
+
+// Four tasks with comments and blanks: `d` reads what `b` and `c` make of the word of `a`.
+const DIAMOND: &str = "# a diamond
+data x 1 5
+ data\ty 1 1\r
+data z 1 1 # carried from c to d
+
+data w 1 0
+task d 1
+reads y  z
+writes w
+put w[ 0 ]=( y[0]+z [0] )
+end
+task c 4
+reads x
+writes z
+put z[0] = (x[0] * 2)
+end
+task b 3
+reads x
+writes y
+put y[0] = (x[0] + 1)
+end
+task a 2
+writes x
+put x[0] = (3 + frame)
+end
+print w";
+
+const CANONICAL: &str = "data x 1 5
+data y 1 1
+data z 1 1
+data w 1 0
+task d 1
+reads y z
+writes w
+put w[0] = (y[0] + z[0])
+end
+task c 4
+reads x
+writes z
+put z[0] = (x[0] * 2)
+end
+task b 3
+reads x
+writes y
+put y[0] = (x[0] + 1)
+end
+task a 2
+writes x
+put x[0] = (3 + frame)
+end
+print w
+";
+
+#[test]
+fn prints_the_canonical_text(rt: HostRuntime) -> Result<(), Fail> {
+    let alloc = rt.alloc();
+    let program = read(&rt, alloc, DIAMOND)?;
+    let text = print_program(alloc, &program)?;
+    assert_eq!(rt; text.as_slice(), CANONICAL.as_bytes());
+    Ok(())
+}
+
+// Whether one word was printed, and this one.
+fn is_word(outputs: &Outputs, word: u64) -> bool {
+    match outputs.lists.as_slice() {
+        [words] => words.as_slice() == [word].as_slice(),
+        _ => false,
+    }
+}
+
+#[test]
+fn runs_the_tasks_in_a_topological_order(rt: HostRuntime) -> Result<(), Fail> {
+    let alloc = rt.alloc();
+    let program = read(&rt, alloc, DIAMOND)?;
+    assert!(rt; is_word(&sequential(alloc, &program, 0)?, 10));
+    assert!(rt; is_word(&sequential(alloc, &program, 2)?, 16));
+    Ok(())
+}
+
+fn listed(alloc: Global, names: &[Name]) -> Result<String, AllocError> {
+    let mut text = String::new(alloc);
+    for name in names {
+        text.push_str(" ")?;
+        text.push_str(str::from_utf8(name.bytes()).unwrap_or("?"))?;
+    }
+    Ok(text)
+}
+
+fn told(alloc: Global, fault: &ProgramFault) -> Result<String, AllocError> {
+    match fault {
+        ProgramFault::BadText { line } => format!(in alloc; "{line}: text"),
+        ProgramFault::Limit { line, which } => format!(in alloc; "{line}: {which:?}"),
+        ProgramFault::Names { line, kind, name } => {
+            let name = listed(alloc, &[*name])?;
+            format!(in alloc; "{line}: {kind:?}{name}")
+        }
+        ProgramFault::NoWriter { name } => {
+            let name = listed(alloc, &[*name])?;
+            format!(in alloc; "no writer{name}")
+        }
+        ProgramFault::Cycle { names } => {
+            let names = listed(alloc, names.as_slice())?;
+            format!(in alloc; "cycle{names}")
+        }
+        other => format!(in alloc; "{other}"),
+    }
+}
+
+// Texts that stand for no program, and what is told of them.
+const FAULTY: [(&str, &str); 22] = [
+    ("", "there is no task"),
+    (" \t\r\n# no task", "there is no task"),
+    ("task a 1", "2: text"),
+    ("task a 1\n", "2: text"),
+    ("task a 0", "1: Cost"),
+    ("task a 07", "1: text"),
+    ("end", "1: text"),
+    ("data x 1 0\ndata x 1 0", "2: Duplicate x"),
+    ("print q", "1: Unknown q"),
+    // the first faulty line is told
+    ("data x 1 0\nprint q\ndata y 0 0\nend", "2: Unknown q"),
+    // the limits of a line come before its names, and the length before the weight
+    ("data x 1 0\ndata x 65 1000001", "2: Length"),
+    ("data x 1 0\nprint x\nprint x", "3: Duplicate x"),
+    ("data x 1 0\ntask a 1\nwrites y x x", "3: Unknown y"),
+    ("data x 1 0\ntask a 1\nreads x y x", "3: Duplicate x"),
+    ("data x 1 0\ntask a 1\nwrites x\nreads x", "4: text"),
+    (
+        "data x 1 0\ntask a 1\nwrites x\nend\ntask b 1\nwrites x\nend",
+        "6: SecondWriter x",
+    ),
+    ("data x 1 0\ntask a 1\nput x[0] = 1", "3: Unknown x"),
+    (
+        "data x 1 0\ndata y 1 0\ntask a 1\nreads x y\nend",
+        "no writer x",
+    ),
+    ("data x 1 0\ntask a 1\nreads x\nwrites x\nend", "cycle a"),
+    (
+        "data x 1 0\ndata y 1 0\ndata z 1 0\ntask e 1\nend\ntask a 1\nreads z\nwrites x\nend\n\
+task b 1\nreads x\nwrites y\nend\ntask c 1\nreads y\nwrites z\nend",
+        "cycle a c b",
+    ),
+    (
+        "data x 1 0\ntask a 1\nwrites x\nput x[((((((((((((((((((((((((((((((",
+        "4: text",
+    ),
+    (
+        "data x 1 0\ntask a 1\nwrites x\nput x[(((((((((((((((((((((((((((((((",
+        "4: Depth",
+    ),
+];
+
+#[test]
+fn tells_the_first_fault(rt: HostRuntime) -> Result<(), Fail> {
+    let alloc = rt.alloc();
+    for (text, expected) in FAULTY {
+        let Err(fault) = read(&rt, alloc, text) else {
+            return Err("a program")?;
+        };
+        assert_eq!(rt; told(alloc, &fault)?.as_str(), expected, "at {text:?}");
+    }
+    Ok(())
+}
