@@ -1,31 +1,89 @@
 -- The defined answer is one, and how a call ends by it.
-use Rattle.std.proofs.Common.{◌≡◌, ◌⊎◌, ◌≤◌, ◌++◌, inl, inr, ℕ, List, Option, Some, None, Result, Ok, Err, IfSome, IsOkAnd, length, refl, sym, ap, subst, ◌∙◌, arith}
-use Rattle.std.proofs.lemmas.Bool.{cases_lt}
+use Rattle.std.proofs.Common.{◌≡◌, ◌⊎◌, ◌<◌, ◌≤◌, [], ◌∷◌, ◌++◌, map, unwrap_or, inl, inr, ℕ, List, Option, Some, None, Result, Ok, Err, IfSome, IsOkAnd, length, refl, sym, ap, subst, ◌∙◌, arith}
+use Rattle.std.proofs.lemmas.Bool.{cases_lt, cases_order}
 use Rattle.std.proofs.lemmas.List.{append-nil}
 use Rattle.std.specs.Io.KnownBytes.{Appends, Consumes, IsAtEnd}
 use Rattle.pyr_num.specs.declared.limits.TheConstants.Limits.{INPUT}
 use Rattle.pyr_top.specs.declared.command.Command.{Command}
 use Rattle.pyr_top.specs.declared.command.Command.TheVariants.{Seq}
 use Rattle.pyr_top.specs.declared.refusal.Refusal.{Refusal}
-use Rattle.pyr_top.specs.declared.refusal.Refusal.TheVariants.{Usage, Source, Sink, Memory, Form}
+use Rattle.pyr_top.specs.declared.refusal.Refusal.TheVariants.{Usage, Source, Sink, Memory, TooLong, Program}
 use Rattle.pyr_top.specs.declared.status.Status.TheVariants as statuses
 use Rattle.pyr_top.specs.Commands.{spelling, input_of}
-use Rattle.pyr_top.specs.Refusals.{status_of}
-use Rattle.pyr_top.specs.SixLines.{printed_line}
-use Rattle.pyr_top.specs.Answers.{Prints, Gives, Answers, IsAnswered, Delivers, Cause, EndsAs, IsComplete}
-use Rattle.pyr_top.proofs.Behind.{same_lines}
+use Rattle.pyr_graphtext.specs.declared.program_fault.ProgramFault.{ProgramFault}
+use Rattle.pyr_top.specs.declared.status.Status as status
+use Rattle.pyr_top.specs.Refusals.{status_of, IsToldAs}
+use Rattle.pyr_seq.specs.Sequential.{outputs_of, value_of, HasOneWriter}
+use Rattle.pyr_seq.proofs.SequentialLemmas.{values-same}
+use Rattle.pyr_graph.specs.System.{datum_numbers}
+use Rattle.pyr_graph.specs.Faults.{IsSound}
+use Rattle.pyr_graphtext.specs.Program.{ProgramParts, tasks_of}
+use Rattle.pyr_graphtext.specs.Sequential.{IsOrder}
+use Rattle.pyr_graphtext.proofs.OneAnswer.{one_answer_is_told}
+use Rattle.pyr_top.specs.OutputsText.{outputs_text}
+use Rattle.pyr_top.specs.Answers.{Prints, RefusesProgram, Refuses, Gives, Answers, IsAnswered, Delivers, Cause, EndsAs, IsComplete}
 
--- a text of six lines prints one line
+-- no two tasks of a sound graph write one datum
+one_writer : (p : ProgramParts) (frame : ℕ) → IsSound p.graph → HasOneWriter (tasks_of p frame)
+one_writer p frame sound a b d is_a is_b writes_a writes_b =
+    elim (cases_order a b) [
+      | inl same ↦ same
+      | inr apart ↦ absurd (sound.written.single.one_writer d (a, b, differ a b apart, (is_a, writes_a), (is_b, writes_b)))
+    ]
+  where
+    differ : (x y : ℕ) → (x < y) ⊎ (y < x) → x ≡ y → ⊥
+    differ x y (inl less) e = omega (arith, less, e)
+    differ x y (inr more) e = omega (arith, more, e)
+
+same_values : (f g : ℕ → List ℕ) → ((d : ℕ) → f d ≡ g d) → (ds : List ℕ) → map f ds ≡ map g ds
+same_values f g each [] = refl
+same_values f g each (d ∷ ds) = λ i. each d i ∷ same_values f g each ds i
+
+-- tasks in two topological orders print the same
+one_run : (p : ProgramParts) (order other : List ℕ) → IsSound p.graph → IsOrder p.graph order → IsOrder p.graph other → (ds : List ℕ) → outputs_of (tasks_of p 0) order ds ≡ outputs_of (tasks_of p 0) other ds
+one_run p order other sound first second ds =
+    same_values (value_of (tasks_of p 0) order) (value_of (tasks_of p 0) other)
+    (λ d. ap (λ (o : Option (List ℕ)). unwrap_or o []) (values-same (tasks_of p 0) order other (one_writer p 0 sound) first second d)) ds
+
+-- a graph text prints one text
 one_output : (input a b : List ℕ) → Prints input a → Prints input b → a ≡ b
 one_output input a b first second =
-    let same = same_lines input first.name second.name first.value second.value first.form second.form in
-    first.line ∙ (λ i. printed_line (same.0 i) (same.1 i)) ∙ sym second.line
+    let same : first.program ≡ second.program = one_answer_is_told.one_program input first.program second.program first.stands second.stands in
+    let sound : IsSound second.program.graph = subst IsSound (sym second.stands.program.graph) second.stands.sound in
+    let ordered : IsOrder second.program.graph first.order = subst (λ (p : ProgramParts). IsOrder p.graph first.order) same first.ordered in
+    first.text
+    ∙ ap (λ (p : ProgramParts). outputs_text p (outputs_of (tasks_of p 0) first.order (datum_numbers p.graph.prints))) same
+    ∙ ap (outputs_text second.program) (one_run second.program first.order second.order sound ordered second.ordered (datum_numbers second.program.graph.prints))
+    ∙ sym second.text
+
+-- a text is refused in one way
+one_refusal : (input : List ℕ) (a b : Refusal) → RefusesProgram input a → RefusesProgram input b → a ≡ b
+one_refusal input (Program f) (Program g) first second = ap Program (one_answer_is_told.one_fault input f g first.0 second.0 first.1 second.1)
+one_refusal input (Program f) Usage first second = absurd second
+one_refusal input (Program f) Source first second = absurd second
+one_refusal input (Program f) Sink first second = absurd second
+one_refusal input (Program f) Memory first second = absurd second
+one_refusal input (Program f) TooLong first second = absurd second
+one_refusal input Usage b first second = absurd first
+one_refusal input Source b first second = absurd first
+one_refusal input Sink b first second = absurd first
+one_refusal input Memory b first second = absurd first
+one_refusal input TooLong b first second = absurd first
+
+-- and not where it prints
+prints_or_refuses : (input output : List ℕ) (r : Refusal) → Prints input output → RefusesProgram input r → ⊥
+prints_or_refuses input output (Program f) prints refuses = one_answer_is_told.not_both input prints.program f refuses.0 prints.stands refuses.1
+prints_or_refuses input output Usage prints refuses = refuses
+prints_or_refuses input output Source prints refuses = refuses
+prints_or_refuses input output Sink prints refuses = refuses
+prints_or_refuses input output Memory prints refuses = refuses
+prints_or_refuses input output TooLong prints refuses = refuses
 
 one_given : (command : Command) (input : List ℕ) (given other : Result (List ℕ) Refusal) → Gives command input given → Gives command input other → given ≡ other
 one_given Seq input (Ok a) (Ok b) first second = ap Ok (one_output input a b first second)
-one_given Seq input (Ok a) (Err r) first second = absurd (second.1 first.name first.value first.form)
-one_given Seq input (Err r) (Ok b) first second = absurd (first.1 second.name second.value second.form)
-one_given Seq input (Err r) (Err q) first second = ap Err (first.0 ∙ sym second.0)
+one_given Seq input (Ok a) (Err r) first second = absurd (prints_or_refuses input a r first second)
+one_given Seq input (Err r) (Ok b) first second = absurd (prints_or_refuses input b r second first)
+one_given Seq input (Err r) (Err q) first second = ap Err (one_refusal input r q first second)
 
 -- a command has one defined answer to an input
 one_answer : (command : Command) (input : List ℕ) (given other : Result (List ℕ) Refusal) → Answers command input given → Answers command input other → given ≡ other
@@ -79,9 +137,12 @@ complete_refused words left old new source out Usage cause no_source no_out comm
 complete_refused words left old new source out Source cause no_source no_out command spelled = absurd (no_source cause.1)
 complete_refused words left old new source out Sink cause no_source no_out command spelled = absurd (no_out cause)
 complete_refused words left old new source out Memory cause no_source no_out command spelled = all_some (input_of command left) _ (λ input given answers. inr refl)
-complete_refused words left old new source out Form cause no_source no_out command spelled =
-    map_some (input_of command left) _ _ (λ input each given answers. inl (ended_refused old new given Form (each given answers)))
-    (so_of_each words left (λ given. given ≡ Err Form) cause command spelled)
+complete_refused words left old new source out TooLong cause no_source no_out command spelled =
+    map_some (input_of command left) _ _ (λ input each given answers. inl (ended_refused old new given TooLong (each given answers)))
+    (so_of_each words left (λ given. given ≡ Err TooLong) cause command spelled)
+complete_refused words left old new source out (Program fault) cause no_source no_out command spelled =
+    map_some (input_of command left) _ _ (λ input each given answers. inl (ended_refused old new given (Program fault) (each given answers)))
+    (so_of_each words left (λ given. given ≡ Err (Program fault)) cause.1 command spelled)
 
 -- the output that a command gave for an input that was read to its end
 pub delivers : (words : List (List ℕ)) (left after : Option (List ℕ)) (command : Command) (input output : List ℕ) (IsWritten : List ℕ → Type 0) → words ≡ spelling command → Consumes left after input → IsAtEnd after → length input ≤ INPUT
@@ -96,3 +157,47 @@ delivers words (Some bytes) (Some rest) Seq input output IsWritten spelled taken
       spelled = spelled;
       answer = (Ok output, record { within = λ _. subst (λ (l : List ℕ). Gives Seq l (Ok output)) whole gives; above = λ over. absurd (omega (arith, size)) }, written);
     }
+
+-- the refusal that a command gave for an input that was read to its end
+pub refuses : (words : List (List ℕ)) (left after : Option (List ℕ)) (source out : Type 0) (command : Command) (input : List ℕ) (refusal : Refusal) → words ≡ spelling command → Consumes left after input → IsAtEnd after → length input ≤ INPUT
+    → Refuses command input refusal → Cause words left source out refusal
+refuses words left after source out command input Memory spelled taken end fits given = tt
+refuses words left after source out command input Usage spelled taken end fits given = absurd given
+refuses words left after source out command input Source spelled taken end fits given = absurd given
+refuses words left after source out command input Sink spelled taken end fits given = absurd given
+refuses words left after source out command input TooLong spelled taken end fits given = absurd given
+refuses words None after source out Seq input (Program fault) spelled taken end fits given = (given.0, record { command = Seq; spelled = spelled; answer = tt })
+refuses words (Some bytes) None source out Seq input (Program fault) spelled taken end fits given = absurd taken
+refuses words (Some bytes) (Some rest) source out Seq input (Program fault) spelled taken end fits given =
+    let whole : input ≡ bytes = sym (append-nil input) ∙ ap (λ (l : List ℕ). input ++ l) (sym end) ∙ sym taken in
+    let size : length input ≡ length bytes = ap length whole in (
+      given.0,
+      record {
+        command = Seq;
+        spelled = spelled;
+        answer = (Err (Program fault), record { within = λ _. subst (λ (l : List ℕ). Gives Seq l (Err (Program fault))) whole given; above = λ over. absurd (omega (arith, size)) }, refl);
+      },
+    )
+
+-- a call for which memory ran out
+complete_memory : (words : List (List ℕ)) (left old new : Option (List ℕ)) → IsComplete words left old new statuses.Memory
+complete_memory words left old new command spelled = all_some (input_of command left) _ (λ input given answers. inr refl)
+
+-- a call that told its refusal, where nothing failed
+pub complete_told : (words : List (List ℕ)) (left old new : Option (List ℕ)) (source out : Type 0) (refusal told : Refusal) (ended : status.Status) → Cause words left source out refusal → IsToldAs refusal told
+    → ended ≡ status_of told → (source → ⊥) → (out → ⊥) → IsComplete words left old new ended
+complete_told words left old new source out refusal told ended cause as_told is no_source no_out = subst (IsComplete words left old new) (sym is) (by_refusal refusal cause as_told) where
+  same : (r : Refusal) → Cause words left source out r → told ≡ r → IsComplete words left old new (status_of told)
+  same r c e = subst (λ (t : Refusal). IsComplete words left old new (status_of t)) (sym e) (complete_refused words left old new source out r c no_source no_out)
+
+  by_program : (fault : ProgramFault) → Cause words left source out (Program fault) → (told ≡ Program fault) ⊎ (told ≡ Memory) → IsComplete words left old new (status_of told)
+  by_program fault c (inl e) = same (Program fault) c e
+  by_program fault c (inr e) = subst (λ (t : Refusal). IsComplete words left old new (status_of t)) (sym e) (complete_memory words left old new)
+
+  by_refusal : (r : Refusal) → Cause words left source out r → IsToldAs r told → IsComplete words left old new (status_of told)
+  by_refusal Usage c e = same Usage c e
+  by_refusal Source c e = same Source c e
+  by_refusal Sink c e = same Sink c e
+  by_refusal Memory c e = same Memory c e
+  by_refusal TooLong c e = same TooLong c e
+  by_refusal (Program fault) c e = by_program fault c e

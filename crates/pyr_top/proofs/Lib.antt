@@ -1,3 +1,3 @@
-mod Answering
-mod Behind
-mod Words
+pub mod Words
+pub mod OutputLemmas
+pub mod Answering

@@ -1,29 +1,49 @@
 -- What the program answers to its words and its input.
-use Rattle.std.specs.Prelude.{◌≡◌, ◌⊎◌, ℕ, ◌<◌, ◌≤◌, Bool, true, false, List, Option, Result, Ok, Err, IfSome, IsOkAnd, length}
+use Rattle.std.specs.Prelude.{◌≡◌, ◌≢◌, ◌⊎◌, ⊤, ℕ, ◌<◌, ◌≤◌, Bool, true, false, List, Option, Result, Ok, Err, IfSome, IsOkAnd, length}
 use Rattle.std.specs.Io.KnownBytes.{Appends, IsAtEnd}
 use Rattle.pyr_num.specs.declared.limits.TheConstants.Limits.{INPUT}
 use Rattle.pyr_port.specs.Giving.{AppendsPrefix}
 use Rattle.pyr_top.specs.declared.command.Command.{Command}
 use Rattle.pyr_top.specs.declared.command.Command.TheVariants.{Seq}
 use Rattle.pyr_top.specs.declared.refusal.Refusal.{Refusal}
-use Rattle.pyr_top.specs.declared.refusal.Refusal.TheVariants.{Usage, Source, Sink, Memory, Form}
+use Rattle.pyr_top.specs.declared.refusal.Refusal.TheVariants.{Usage, Source, Sink, Memory, TooLong, Program}
 use Rattle.pyr_top.specs.declared.status.Status as status
 use Rattle.pyr_top.specs.declared.status.Status.TheVariants as statuses
 use Rattle.pyr_top.specs.Commands.{spelling, input_of, NoCommand, ReadsInput}
-use Rattle.pyr_top.specs.Refusals.{status_of, line_of, too_long}
-use Rattle.pyr_top.specs.SixLines.{IsSixLines, NotSixLines, printed_line}
+use Rattle.pyr_top.specs.Refusals.{status_of, line_of, too_long, IsToldAs}
+use Rattle.pyr_top.specs.OutputsText.{outputs_text}
+use Rattle.pyr_seq.specs.Sequential.{outputs_of}
+use Rattle.pyr_graph.specs.System.{datum_numbers}
+use Rattle.pyr_graphtext.specs.declared.program_fault.ProgramFault.TheVariants as faults
+use Rattle.pyr_graphtext.specs.Program.{ProgramParts, tasks_of}
+use Rattle.pyr_graphtext.specs.Sequential.{IsOrder}
+use Rattle.pyr_graphtext.specs.Answer.{StandsFor, IsFaultOf}
 
--- the input is of the six lines, and the output is the line that they print
+-- the input stands for a program, and the output is what its tasks, run one by one in a topological
+-- order, print
 pub record Prints (input output : List ℕ) : Type 0 where
-  pub name : List ℕ
-  pub value : ℕ
-  pub form : IsSixLines input name value
-  pub line : output ≡ printed_line name value
+  pub program : ProgramParts
+  pub stands : StandsFor input program
+  pub order : List ℕ
+  pub ordered : IsOrder program.graph order
+  pub text : output
+      ≡ outputs_text program (outputs_of (tasks_of program 0) order (datum_numbers program.graph.prints))
+
+-- the input is a graph text with this first fault
+abbrev pub RefusesProgram : List ℕ → Refusal → Type 0
+RefusesProgram input (Program fault) = (fault ≢ faults.Memory) × IsFaultOf input fault
+RefusesProgram input refusal = ⊥
 
 -- what a command gives for an input within the limit: its output, or its refusal
 abbrev pub Gives : Command → List ℕ → Result (List ℕ) Refusal → Type 0
 Gives Seq input (Ok output) = Prints input output
-Gives Seq input (Err refusal) = (refusal ≡ Form) × NotSixLines input
+Gives Seq input (Err refusal) = RefusesProgram input refusal
+
+-- a command refuses the input so, or memory ran out
+abbrev pub Refuses : Command → List ℕ → Refusal → Type 0
+Refuses command input Memory = ⊤
+Refuses command input (Program fault) = Gives command input (Err (Program fault))
+Refuses command input refusal = ⊥
 
 -- the defined answer of a command to an input: what it gives, and above the limit the refusal for that
 pub record Answers (command : Command) (input : List ℕ) (given : Result (List ℕ) Refusal) : Type 0 where
@@ -46,7 +66,9 @@ Cause words left source out Usage = NoCommand words
 Cause words left source out Source = ReadsInput words × source
 Cause words left source out Sink = out
 Cause words left source out Memory = Unit {0}
-Cause words left source out Form = IsAnswered words left (λ given. given ≡ Err Form)
+Cause words left source out TooLong = IsAnswered words left (λ given. given ≡ Err TooLong)
+Cause words left source out (Program fault) =
+    (fault ≢ faults.Memory) × IsAnswered words left (λ given. given ≡ Err (Program fault))
 
 -- the status tells of the input
 abbrev pub tells_of_input : status.Status → Bool
@@ -86,3 +108,17 @@ IsComplete words left old new ended =
 -- an input within the limit was read to its end
 abbrev pub IsReadToEnd : List (List ℕ) → Option (List ℕ) → Option (List ℕ) → Type 0
 IsReadToEnd words old new = ReadsInput words → IfSome old (λ input. length input ≤ INPUT → IsAtEnd new)
+
+-- this refusal was told: its status, and a prefix of its line, all of it where `err` didn't fail
+pub record Tells (told : Refusal) (err : Type 0) (old new : Option (List ℕ)) (ended : status.Status)
+    : Type 0 where
+  pub status : ended ≡ status_of told
+  pub line : AppendsPrefix old new (line_of told)
+  pub whole : Appends old new (line_of told) ⊎ err
+
+-- the refusal was told, or that there was no memory to make its line
+pub record IsTold (refusal : Refusal) (err : Type 0) (old new : Option (List ℕ))
+    (ended : status.Status) : Type 0 where
+  pub told : Refusal
+  pub as_ : IsToldAs refusal told
+  pub tells : Tells told err old new ended

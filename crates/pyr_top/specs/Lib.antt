@@ -1,6 +1,6 @@
-pub mod Words
-pub mod SixLines
 pub mod Status
+pub mod Messages
 pub mod Refusals
 pub mod Commands
+pub mod OutputsText
 pub mod Answers

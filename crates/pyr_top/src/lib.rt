@@ -2,15 +2,14 @@
 #![tactic(auto)]
 
 mod command;
-mod reader;
+mod messages;
+mod outputs_text;
 mod refusal;
-mod six_lines;
 mod status;
 mod top;
 
 pub use command::Command;
 pub use refusal::Refusal;
-pub use six_lines::SixLines;
 pub use status::Status;
 pub use top::answer;
 

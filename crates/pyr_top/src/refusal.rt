@@ -1,14 +1,15 @@
 // Why a command isn't answered.
-ghost use Rattle.std.specs.Prelude.{◌≡◌};
-ghost use Rattle.pyr_top.specs.Refusals.{status_of, line_of, refusal_of};
+ghost use Rattle.std.specs.Prelude.{◌≡◌, IfSome, IfNone};
+ghost use Rattle.pyr_top.specs.Refusals.{status_of, line_of, refusal_of, refusal_by, IsMade};
 ghost use Rattle.pyr_top.specs.declared.refusal.Refusal.TheVariants.{Sink as SinkRefusal, Memory as MemoryRefusal};
 
 use crate::Status;
+use pyr_graphtext::ProgramFault;
 use pyr_port::{ReadFault, SinkFault};
 use std::alloc::AllocError;
 
 /// Why a command isn't answered.
-#[derive(Clone, Copy, Debug, PartialEq, Eq)]
+#[derive(Debug, Drop)]
 pub enum Refusal {
     /// The words are no command.
     Usage,
@@ -18,34 +19,46 @@ pub enum Refusal {
     Sink,
     /// Memory ran out.
     Memory,
-    /// The input isn't a text of the six lines.
-    Form,
+    /// The input is longer than its limit.
+    TooLong,
+    /// The input is a graph text that stands for no program.
+    Program(ProgramFault),
 }
 
 impl Refusal {
     /// The status that the call ends with.
-    pub fn status(self) -> Status
-        ensures { result ≡ status_of self }
+    pub fn status(&self) -> Status
+        ensures { result ≡ status_of self.now }
     {
         match self {
             Refusal::Usage => Status::Usage,
             Refusal::Source => Status::Source,
             Refusal::Sink => Status::Sink,
             Refusal::Memory => Status::Memory,
-            Refusal::Form => Status::Text,
+            Refusal::TooLong => Status::Limit,
+            Refusal::Program(fault) => match fault {
+                ProgramFault::BadText { .. } => Status::Text,
+                ProgramFault::Limit { .. } => Status::Limit,
+                ProgramFault::Names { .. } | ProgramFault::NoTask | ProgramFault::NoWriter { .. } =>
+                    Status::Names,
+                ProgramFault::Cycle { .. } => Status::Cycle,
+                ProgramFault::Memory => Status::Memory,
+            },
         }
     }
 
-    /// The line that tells the cause, with its line feed.
-    pub fn line(self) -> &'static [u8]
-        ensures { result.now ≡ line_of self }
+    /// The line that tells the cause, with its line feed, where that line is always the same.
+    pub fn fixed_line(&self) -> Option<&'static [u8]>
+        ensures some { IfSome result (λ line. line.now ≡ line_of self.now) }
+        ensures fixed { IfNone result (IsMade self.now) }
     {
         match self {
-            Refusal::Usage => b"usage\n".as_slice(),
-            Refusal::Source => b"source failed\n",
-            Refusal::Sink => b"sink failed\n",
-            Refusal::Memory => b"no memory\n",
-            Refusal::Form => b"form\n",
+            Refusal::Usage => Some(b"usage\n"),
+            Refusal::Source => Some(b"source failed\n"),
+            Refusal::Sink => Some(b"sink failed\n"),
+            Refusal::Memory => Some(b"no memory\n"),
+            Refusal::TooLong => Some(b"limit input\n"),
+            Refusal::Program(_) => None,
         }
     }
 }
@@ -56,9 +69,19 @@ impl From<ReadFault> for Refusal {
     fn from(fault: ReadFault) -> Self {
         match fault {
             ReadFault::SourceFault => Refusal::Source,
-            // A longer text isn't of the form.
-            ReadFault::TooLong => Refusal::Form,
+            ReadFault::TooLong => Refusal::TooLong,
             ReadFault::Memory => Refusal::Memory,
+        }
+    }
+}
+
+impl From<ProgramFault> for Refusal {
+    ghost from_gives = { λ fault refusal. refusal ≡ refusal_by fault };
+
+    fn from(fault: ProgramFault) -> Self {
+        match fault {
+            ProgramFault::Memory => Refusal::Memory,
+            fault => Refusal::Program(fault),
         }
     }
 }

@@ -8,6 +8,94 @@ use std::test::Fail;
 
 const SEVEN: &[u8] = b"data x 1 0\ntask a 1\nwrites x\nput x[0] = 7\nend\nprint x\n";
 
+const DIAMOND: &[u8] = b"data x 1 5\ndata y 1 1\ndata z 1 1\ndata w 1 0\n\
+task a 2\nwrites x\nput x[0] = 3\nend\n\
+task b 3\nreads x\nwrites y\nput y[0] = (x[0] + 1)\nend\n\
+task c 4\nreads x\nwrites z\nput z[0] = (x[0] * 2)\nend\n\
+task d 1\nreads y z\nwrites w\nput w[0] = (y[0] + z[0])\nend\nprint w\n";
+
+const TWO: &[u8] = b"data x 1 0\ndata y 1 0\n\
+task a 1\nwrites x\nput x[0] = 1\nend\n\
+task b 1\nwrites y\nput y[0] = 2\nend\nprint x\nprint y\n";
+
+const ARITHMETIC: &[u8] = b"data x 2 0\ndata r 5 0\n\
+task a 1\nwrites x\nput x[0] = 11\nput x[1] = 22\nend\n\
+task b 1\nreads x\nwrites r\n\
+put r[0] = (18446744073709551615 + 1)\nput r[1] = (5 / 0)\nput r[2] = (5 % 0)\n\
+put r[3] = (1 << 64)\nput r[4] = x[5]\nend\nprint r\n";
+
+// Its work is exactly the limit.
+const LOOPS: &[u8] = b"data x 1 0\ntask a 1\nwrites x\n\
+for i 27\nfor j 12345\nset s = 0\ndone\ndone\nend\nprint x\n";
+
+const ELIMINATION: &[u8] = b"data c0 3 6\ndata c1 3 2\ndata c2 3 2\ndata d1 3 4\ndata d2 3 3\n\
+data e2 3 0\n\
+task l0 1\nwrites c0\nput c0[0] = 2\nput c0[1] = 1\nput c0[2] = 3\nend\n\
+task l1 1\nwrites c1\nput c1[0] = 4\nput c1[1] = 5\nput c1[2] = 9\nend\n\
+task l2 1\nwrites c2\nput c2[0] = 7\nput c2[1] = 8\nput c2[2] = 10\nend\n\
+task u01 6\nreads c0 c1\nwrites d1\nfor i 3\n\
+put d1[i] = ((c1[i] * c0[0]) - (c0[i] * c1[0]))\ndone\nend\n\
+task u02 6\nreads c0 c2\nwrites d2\nfor i 3\n\
+put d2[i] = ((c2[i] * c0[0]) - (c0[i] * c2[0]))\ndone\nend\n\
+task u12 6\nreads d1 d2\nwrites e2\nfor i 3\n\
+put e2[i] = ((d2[i] * d1[1]) - (d1[i] * d2[1]))\ndone\nend\nprint e2\nprint d1\n";
+
+// Texts that are refused, with the status and the line of each.
+const REFUSED: [(&[u8], u8, &[u8]); 17] = [
+    (b"", 8, b"no task\n"),
+    (b"task a 0", 7, b"line 1: limit cost\n"),
+    (b"task a 07", 6, b"line 1: text\n"),
+    (b"task a 1", 6, b"line 2: text\n"),
+    (b"task a 1\n", 6, b"line 2: text\n"),
+    (
+        b"data x 1 0\ndata x 1 0\n",
+        8,
+        b"line 2: duplicate name x\n",
+    ),
+    (b"data x 65 0\ndata x 65 0\n", 7, b"line 1: limit length\n"),
+    (b"data x 1 0\ndata x 65 0\n", 7, b"line 2: limit length\n"),
+    (b"print q", 8, b"line 1: unknown name q\n"),
+    (
+        b"data x 1 0\ntask a 1\nwrites x\nend\ntask b 1\nwrites x\nend\n",
+        8,
+        b"line 6: second writer of x\n",
+    ),
+    (
+        b"data x 1 0\ndata y 1 0\ntask a 1\nreads x y\nend\n",
+        8,
+        b"no writer of x\n",
+    ),
+    (
+        b"data x 1 0\ndata y 1 0\ndata z 1 0\ntask e 1\nend\n\
+task a 1\nreads z\nwrites x\nend\ntask b 1\nreads x\nwrites y\nend\n\
+task c 1\nreads y\nwrites z\nend\n",
+        9,
+        b"cycle a c b\n",
+    ),
+    (
+        b"data x 1 0\ntask a 1\nreads x\nwrites x\nend\n",
+        9,
+        b"cycle a\n",
+    ),
+    (
+        b"data x 1 0\ntask a 1\nwrites x\n\
+for i 27\nfor j 12345\nset s = 0\ndone\ndone\nfor k 0\ndone\nend\nprint x\n",
+        7,
+        b"line 11: limit work\n",
+    ),
+    (
+        b"data x 1 0\ntask a 1\nwrites x\nput x[0] = (((((((((((((((((((((((((((((((\n",
+        6,
+        b"line 4: text\n",
+    ),
+    (
+        b"data x 1 0\ntask a 1\nwrites x\nput x[0] = ((((((((((((((((((((((((((((((((\n",
+        7,
+        b"line 4: limit depth\n",
+    ),
+    (b"data x 1 0\nput x[0] = y\n", 6, b"line 2: text\n"),
+];
+
 fn plan(alloc: Global, most: usize, fail: &[u32]) -> Result<CallPlan, AllocError>
     requires { 1 ≤ most }
 {
@@ -120,28 +208,43 @@ fn a_failing_err_changes_no_status(rt: HostRuntime) -> Result<(), Fail> {
     Ok(())
 }
 
+// What `seq` answers to a text: its status, its output and its line on `err`.
+fn seq(alloc: Global, text: &[u8]) -> Result<(u8, MemorySink, MemorySink), AllocError> {
+    let mut call = Call::new(alloc, &["seq"], text.to_vec(alloc)?)?;
+    let status = call.status(alloc);
+    let Call {
+        words: _,
+        source: _,
+        out,
+        err,
+    } = call;
+    Ok((status, out, err))
+}
+
 #[test]
-fn texts_of_another_form(rt: HostRuntime) -> Result<(), Fail> {
-    let alloc = rt.alloc();
-    for text in [
-        b"".as_slice(),
-        b"data x 1 0\n",
-        b"data x 1 0\ntask a 1\nwrites x\nput x[0] = 7\nend\nprint x",
-        b"data x 1 0\ntask a 1\nwrites x\nput x[0] = 7\nend\nprint x\n\n",
-        b"data x 1 0\ntask a 1\nwrites x\nput x[0] = 7\nend\nprint y\n",
-        b"data x 1 0\ntask a 1\nwrites x\nput y[0] = 7\nend\nprint x\n",
-        b"data x 1 0\ntask a 1\nwrites x\nput x[0] = 07\nend\nprint x\n",
-        b"data x 1 0\ntask a 1\nwrites x\nput x[0] =  7\nend\nprint x\n",
-        b"data end 1 0\ntask a 1\nwrites end\nput end[0] = 7\nend\nprint end\n",
-        b"data x 1 1000001\ntask a 1\nwrites x\nput x[0] = 7\nend\nprint x\n",
-        b"data x 1 0\ntask a 0\nwrites x\nput x[0] = 7\nend\nprint x\n",
-        b"data x 1 0\ntask a 1000001\nwrites x\nput x[0] = 7\nend\nprint x\n",
-        b"data x 1 0\ntask a 1\nwrites x\nput x[0] = 18446744073709551616\nend\nprint x\n",
+fn seq_prints_the_printed_data(rt: HostRuntime) -> Result<(), Fail> {
+    for (text, output) in [
+        (DIAMOND, b"w = 10\n".as_slice()),
+        (TWO, b"x = 1\ny = 2\n"),
+        (ARITHMETIC, b"r = 0 0 5 1 22\n"),
+        (LOOPS, b"x = 0\n"),
+        (ELIMINATION, b"e2 = 0 0 18446744073709551556\nd1 = 0 6 6\n"),
     ] {
-        let mut call = Call::new(alloc, &["seq"], text.to_vec(alloc)?)?;
-        assert_eq!(rt; call.status(alloc), 6);
-        assert_eq!(rt; call.out.bytes(), b"".as_slice());
-        assert_eq!(rt; call.err.bytes(), b"form\n".as_slice());
+        let (status, out, err) = seq(rt.alloc(), text)?;
+        assert_eq!(rt; status, 0);
+        assert_eq!(rt; out.bytes(), output);
+        assert_eq!(rt; err.bytes(), b"".as_slice());
+    }
+    Ok(())
+}
+
+#[test]
+fn each_fault_has_its_line(rt: HostRuntime) -> Result<(), Fail> {
+    for (text, code, line) in REFUSED {
+        let (status, out, err) = seq(rt.alloc(), text)?;
+        assert_eq!(rt; status, code);
+        assert_eq!(rt; out.bytes(), b"".as_slice());
+        assert_eq!(rt; err.bytes(), line);
     }
     Ok(())
 }
@@ -150,8 +253,8 @@ fn texts_of_another_form(rt: HostRuntime) -> Result<(), Fail> {
 fn a_text_above_the_limit(rt: HostRuntime) -> Result<(), Fail> {
     let alloc = rt.alloc();
     let mut call = Call::new(alloc, &["seq"], vec![in alloc; b' '; Limits::INPUT + 1]?)?;
-    assert_eq!(rt; call.status(alloc), 6);
-    assert_eq!(rt; call.err.bytes(), b"form\n".as_slice());
+    assert_eq!(rt; call.status(alloc), 7);
+    assert_eq!(rt; call.err.bytes(), b"limit input\n".as_slice());
     Ok(())
 }
 

@@ -1,14 +1,18 @@
 // The top call.
-ghost use Rattle.std.specs.Prelude.{◌≡◌, ◌≢◌, ◌⊎◌, ◌↔◌, ℕ, List, IfOk, IfErr, OnOk, IsTrue};
+ghost use Rattle.std.specs.Prelude.{◌≡◌, ◌≢◌, ◌⊎◌, ◌↔◌, ◌≤◌, ℕ, List, length, IfOk, IfErr, OnOk, IsTrue};
 ghost use Rattle.std.specs.Io.KnownBytes.{Appends};
 ghost use Rattle.pyr_port.specs.Causes.{Rose};
 ghost use Rattle.pyr_port.specs.Giving.{AppendsPrefix};
 ghost use Rattle.pyr_top.specs.Commands.{texts, NoCommand, ReadsInput};
-ghost use Rattle.pyr_top.specs.Answers.{Gives, Delivers, Cause, IsRefused, IsRefusedAs, IsComplete};
-ghost use Rattle.pyr_top.specs.Answers.{IsReadToEnd, tells_of_input};
+ghost use Rattle.pyr_top.specs.Answers.{Gives, Refuses, Prints, Delivers, Cause, IsRefused, IsRefusedAs, IsComplete};
+ghost use Rattle.pyr_top.specs.Answers.{IsReadToEnd, tells_of_input, Tells, IsTold};
+ghost use Rattle.pyr_top.specs.Refusals.{status_of, line_of};
 
 use crate::command::read_command;
-use crate::{Command, Refusal, SixLines, Status};
+use crate::messages::fault_line;
+use crate::outputs_text::outputs_text;
+use crate::{Command, Refusal, Status};
+use pyr_graphtext::{read_program, sequential};
 use pyr_num::Limits;
 use pyr_port::{Sink, Source, read_all, write_all};
 use std::alloc::Global;
@@ -56,11 +60,35 @@ pub fn answer<S: Source, O: Sink, E: Sink>(
 {
     match respond(alloc, words, source, out) {
         Ok(()) => Status::Ok,
-        Err(refusal) => {
-            let _ = write_all(err, refusal.line());
-            refusal.status()
-        }
+        Err(refusal) => refuse(alloc, &refusal, err),
     }
+}
+
+// Tells a refusal on `err`, and answers its status. Where its line has to be made and memory runs
+// out, that is told.
+fn refuse<E: Sink>(alloc: Global, refusal: &Refusal, err: &mut E) -> Status
+    ensures { IsTold refusal.now (Rose (E.faults err.old) (E.faults err.new))
+        (E.written err.old) (E.written err.new) result }
+{
+    if let Some(line) = refusal.fixed_line() {
+        return tell(refusal, line, err);
+    }
+    match refusal {
+        Refusal::Program(fault) => match fault_line(alloc, fault) {
+            Ok(line) => tell(refusal, &line, err),
+            Err(_) => tell(&Refusal::Memory, b"no memory\n", err),
+        },
+        _ => unreachable!(),
+    }
+}
+
+fn tell<E: Sink>(told: &Refusal, line: &[u8], err: &mut E) -> Status
+    requires { line.now ≡ line_of told.now }
+    ensures { Tells told.now (Rose (E.faults err.old) (E.faults err.new))
+        (E.written err.old) (E.written err.new) result }
+{
+    let _ = write_all(err, line);
+    told.status()
 }
 
 fn respond<S: Source, O: Sink>(
@@ -79,8 +107,8 @@ fn respond<S: Source, O: Sink>(
     ensures unread { result ≡ Err Refusal.Usage → source.new ≡ source.old }
     ensures read_to_end { OnOk result
         (IsReadToEnd (texts words.now) (S.left source.old) (S.left source.new)) }
-    ensures refused_at_end { result ≡ Err Refusal.Form
-        → IsReadToEnd (texts words.now) (S.left source.old) (S.left source.new) }
+    ensures refused_at_end { IfErr result (λ refusal. IsTrue (tells_of_input (status_of refusal))
+        → IsReadToEnd (texts words.now) (S.left source.old) (S.left source.new)) }
     ensures nothing { IfErr result (λ refusal. refusal ≢ Refusal.Sink → out.new ≡ out.old) }
     ensures prefix { result ≡ Err Refusal.Sink → Delivers (texts words.now) (S.left source.old)
         (AppendsPrefix (O.written out.old) (O.written out.new)) }
@@ -94,16 +122,23 @@ fn respond<S: Source, O: Sink>(
 
 // What the command gives for the input.
 fn output_of(alloc: Global, command: Command, input: &[u8]) -> Result<Vec<u8>, Refusal>
+    requires { length input.now ≤ Limits.INPUT }
     ensures ok { IfOk result (λ output. Gives command input.now (Ok output.items)) }
-    ensures refused { IfErr result (λ refusal.
-        refusal ≢ Refusal.Memory → Gives command input.now (Err refusal)) }
-    ensures input_alone { IfErr result (λ refusal.
-        (refusal ≡ Refusal.Form) ⊎ (refusal ≡ Refusal.Memory)) }
+    ensures refused { IfErr result (Refuses command input.now) }
 {
     match command {
-        Command::Seq => {
-            let lines = SixLines::read(input).ok_or(Refusal::Form)?;
-            Ok(lines.output(alloc)?)
-        }
+        Command::Seq => sequential_text(alloc, input),
     }
+}
+
+// What the tasks of a graph text print, run one by one.
+fn sequential_text(alloc: Global, input: &[u8]) -> Result<Vec<u8>, Refusal>
+    requires { length input.now ≤ Limits.INPUT }
+    ensures ok { IfOk result (λ output. Prints input.now output.items) }
+    ensures refused { IfErr result (Refuses Command.Seq input.now) }
+{
+    let program = read_program(alloc, input)?;
+    let outputs = sequential(alloc, &program, 0)?;
+    let _order = program.graph().topological();
+    Ok(outputs_text(alloc, &program, &outputs)?)
 }

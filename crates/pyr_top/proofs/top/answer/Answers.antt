@@ -1,6 +1,6 @@
 use Rattle.pyr_port.specs.Causes.{Rose}
 use Rattle.pyr_top.specs.Commands.{texts}
-use Rattle.pyr_top.proofs.Answering.{complete_fine, complete_refused}
+use Rattle.pyr_top.proofs.Answering.{complete_fine, complete_told}
 use Rattle.pyr_top.proofs.top.answer.Goals as goal
 
 pub returns-in-Ok-clause-complete : goal.returns-in-Ok-clause-complete
@@ -9,8 +9,7 @@ returns-in-Ok-clause-complete g c _ _ =
 
 pub returns-in-Err-clause-complete : goal.returns-in-Err-clause-complete
 returns-in-Err-clause-complete g c no_source no_out =
-    rw c.status.ensures
-    (complete_refused (texts c.args.words.now) (g.S.Source.left c.args.source.now) (g.O.Sink.written c.args.out.now) (g.O.Sink.written c.respond.new.out)
+    complete_told (texts c.args.words.now) (g.S.Source.left c.args.source.now) (g.O.Sink.written c.args.out.now) (g.O.Sink.written c.respond.new.out)
     (Rose (g.S.Source.faults c.args.source.now) (g.S.Source.faults c.respond.new.source))
     (Rose (g.O.Sink.faults c.args.out.now) (g.O.Sink.faults c.respond.new.out))
-    c.in-Err.refusal c.in-Err.ensures.cause no_source no_out)
+    c.in-Err.refusal c.refuse.ensures.told c.refuse.result c.in-Err.ensures.cause c.refuse.ensures.as_ c.refuse.ensures.tells.status no_source no_out
