@@ -1,0 +1,8 @@
+use Rattle.std.proofs.Common.{◌≡◌, ◌++◌, take, map}
+use Rattle.std.specs.List.{flat_map}
+use Rattle.pyr_bundletext.specs.Text.{spaced}
+use Rattle.pyr_bundletext.proofs.lines.put_datum_ids.Given as goal
+
+abbrev pub invariant-loop-datum : goal.invariant-loop-datum
+invariant-loop-datum l =
+    l.text.items ≡ l.fn.text.items ++ l.word ++ flat_map spaced (map (λ d. d.0) (take l.datum-index l.datums))

@@ -1,0 +1,8 @@
+use Rattle.std.proofs.Common.{◌≡◌, ◌++◌, take, map}
+use Rattle.std.specs.List.{flat_map}
+use Rattle.pyr_bundletext.specs.Text.{print_text}
+use Rattle.pyr_bundletext.proofs.printing.put_prints.Given as goal
+
+abbrev pub invariant-loop-datum : goal.invariant-loop-datum
+invariant-loop-datum l =
+    l.text.items ≡ l.initial.text.items ++ flat_map print_text (map (λ d. d.0) (take l.datum-index l.prints))

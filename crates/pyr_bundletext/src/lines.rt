@@ -1,0 +1,45 @@
+// Writing one line.
+ghost use Rattle.std.specs.Prelude.{◌≡◌, ◌++◌, map, OnOk};
+ghost use Rattle.pyr_bundletext.specs.Text.{spaced, line};
+
+use itoa::Buffer;
+use pyr_num::DatumId;
+use std::alloc::AllocError;
+
+// A number behind a space.
+pub(crate) fn put_number(text: &mut Vec<u8>, number: u64) -> Result<(), AllocError>
+    ensures { OnOk result (text.new.items ≡ text.old.items ++ spaced number) }
+{
+    let mut buffer = Buffer::new();
+    text.push(b' ')?;
+    text.extend_from_slice(buffer.format(number).as_bytes())?;
+    Ok(())
+}
+
+pub(crate) fn put_line(text: &mut Vec<u8>, word: &[u8], numbers: &[u64]) -> Result<(), AllocError>
+    ensures { OnOk result (text.new.items ≡ text.old.items ++ line word.now numbers.now) }
+{
+    text.extend_from_slice(word)?;
+    for number in numbers {
+        put_number(text, *number)?;
+    }
+    text.push(b'\n')?;
+    Ok(())
+}
+
+// A line of the numbers of data.
+pub(crate) fn put_datum_ids(
+    text: &mut Vec<u8>,
+    word: &[u8],
+    datums: &[DatumId],
+) -> Result<(), AllocError>
+    ensures { OnOk result
+        (text.new.items ≡ text.old.items ++ line word.now (map (λ d. d.0) datums.now)) }
+{
+    text.extend_from_slice(word)?;
+    for datum in datums {
+        put_number(text, u64::from(datum.0))?;
+    }
+    text.push(b'\n')?;
+    Ok(())
+}

@@ -1,0 +1,133 @@
+// Writing a bundle: one function for each list.
+ghost use Rattle.std.specs.Prelude.{◌≡◌, ◌++◌, map, OnOk, IfOk};
+ghost use Rattle.std.specs.List.{flat_map};
+ghost use Rattle.pyr_bundle.specs.Parts.{raw_of, raw_task_of, raw_instr_of, raw_channel_of};
+ghost use Rattle.pyr_bundletext.specs.Text.{datum_text, task_text, print_text, channel_text, instr_text, processors_text, text_of};
+
+use crate::lines::{put_datum_ids, put_line, put_number};
+use crate::ops::put_ops;
+use pyr_bundle::{Bundle, BundleTask, Capacity, Instr, RawDatum};
+use pyr_num::{DatumId, ProcId, TaskId};
+use std::alloc::{AllocError, Global};
+
+pub(crate) fn put_datum(text: &mut Vec<u8>, datum: RawDatum) -> Result<(), AllocError>
+    ensures { OnOk result (text.new.items ≡ text.old.items ++ datum_text datum) }
+{
+    text.extend_from_slice(b"datum ")?;
+    text.extend_from_slice(datum.name.bytes())?;
+    put_number(text, u64::from(datum.length))?;
+    text.push(b'\n')?;
+    Ok(())
+}
+
+fn put_datums(text: &mut Vec<u8>, bundle: &Bundle) -> Result<(), AllocError>
+    ensures { OnOk result
+        (text.new.items ≡ text.old.items ++ flat_map datum_text bundle.now.datums) }
+{
+    for d in 0..bundle.datum_count() {
+        put_datum(text, bundle.datum(DatumId(d)))?;
+    }
+    Ok(())
+}
+
+fn put_task(text: &mut Vec<u8>, task: &BundleTask) -> Result<(), AllocError>
+    ensures { OnOk result
+        (text.new.items ≡ text.old.items ++ task_text (raw_task_of task.now)) }
+{
+    put_line(text, b"task", &[u64::from(task.code.shape().locals)])?;
+    put_datum_ids(text, b"reads", task.reads.as_slice())?;
+    put_datum_ids(text, b"writes", task.writes.as_slice())?;
+    put_ops(text, task.code.ops())?;
+    put_line(text, b"end", &[])
+}
+
+fn put_tasks(text: &mut Vec<u8>, bundle: &Bundle) -> Result<(), AllocError>
+    ensures { OnOk result (text.new.items ≡ text.old.items
+        ++ flat_map task_text (map raw_task_of bundle.now.tasks)) }
+{
+    for t in 0..bundle.task_count() {
+        put_task(text, bundle.task(TaskId(t)))?;
+    }
+    Ok(())
+}
+
+pub(crate) fn put_prints(text: &mut Vec<u8>, prints: &[DatumId]) -> Result<(), AllocError>
+    ensures { OnOk result (text.new.items ≡ text.old.items
+        ++ flat_map print_text (map (λ d. d.0) prints.now)) }
+{
+    for datum in prints {
+        put_line(text, b"print", &[u64::from(datum.0)])?;
+    }
+    Ok(())
+}
+
+fn put_channel(text: &mut Vec<u8>, channel: Capacity) -> Result<(), AllocError>
+    ensures { OnOk result
+        (text.new.items ≡ text.old.items ++ channel_text (raw_channel_of channel)) }
+{
+    let from = u64::from(channel.from.0);
+    let to = u64::from(channel.to.0);
+    put_line(text, b"channel", &[from, to, u64::from(channel.capacity)])
+}
+
+pub(crate) fn put_channels(text: &mut Vec<u8>, channels: &[Capacity]) -> Result<(), AllocError>
+    ensures { OnOk result (text.new.items ≡ text.old.items
+        ++ flat_map channel_text (map raw_channel_of channels.now)) }
+{
+    for channel in channels {
+        put_channel(text, *channel)?;
+    }
+    Ok(())
+}
+
+fn put_instr(text: &mut Vec<u8>, instr: Instr) -> Result<(), AllocError>
+    ensures { OnOk result (text.new.items ≡ text.old.items ++ instr_text (raw_instr_of instr)) }
+{
+    match instr {
+        Instr::Recv { from, datum } => {
+            put_line(text, b"recv", &[u64::from(from.0), u64::from(datum.0)])
+        }
+        Instr::Exec { task } => put_line(text, b"exec", &[u64::from(task.0)]),
+        Instr::Send { to, datum } => {
+            put_line(text, b"send", &[u64::from(to.0), u64::from(datum.0)])
+        }
+    }
+}
+
+pub(crate) fn put_instrs(text: &mut Vec<u8>, code: &[Instr]) -> Result<(), AllocError>
+    ensures { OnOk result (text.new.items ≡ text.old.items
+        ++ flat_map instr_text (map raw_instr_of code.now)) }
+{
+    for instr in code {
+        put_instr(text, *instr)?;
+    }
+    Ok(())
+}
+
+fn put_processors(text: &mut Vec<u8>, bundle: &Bundle) -> Result<(), AllocError>
+    ensures { OnOk result (text.new.items ≡ text.old.items
+        ++ processors_text 0 (map (map raw_instr_of) bundle.now.code)) }
+{
+    for p in 0..bundle.processors() {
+        put_line(text, b"processor", &[u64::from(p)])?;
+        put_instrs(text, bundle.code(ProcId(p)))?;
+    }
+    Ok(())
+}
+
+/// The text of a bundle, in its one spelling.
+#[tactic(auto, unfolding(crate::specs::Text::text_of))]
+pub fn print_bundle(alloc: Global, bundle: &Bundle) -> Result<Vec<u8>, AllocError>
+    ensures { IfOk result (λ text. text.items ≡ text_of (raw_of bundle.now)) }
+{
+    let mut text = Vec::new(alloc);
+    put_line(&mut text, b"pyrros", &[1])?;
+    put_line(&mut text, b"processors", &[u64::from(bundle.processors())])?;
+    put_datums(&mut text, bundle)?;
+    put_tasks(&mut text, bundle)?;
+    put_prints(&mut text, bundle.prints())?;
+    put_channels(&mut text, bundle.channels())?;
+    put_processors(&mut text, bundle)?;
+    put_line(&mut text, b"stop", &[])?;
+    Ok(text)
+}
