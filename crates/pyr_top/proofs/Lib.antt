@@ -1,3 +1,4 @@
 pub mod Words
 pub mod OutputLemmas
+pub mod ClusterLemmas
 pub mod Answering

@@ -4,7 +4,7 @@ use Rattle.std.specs.Io.KnownBytes.{Appends, IsAtEnd}
 use Rattle.pyr_num.specs.declared.limits.TheConstants.Limits.{INPUT}
 use Rattle.pyr_port.specs.Giving.{AppendsPrefix}
 use Rattle.pyr_top.specs.declared.command.Command.{Command}
-use Rattle.pyr_top.specs.declared.command.Command.TheVariants.{Seq}
+use Rattle.pyr_top.specs.declared.command.Command.TheVariants.{Seq, Cluster}
 use Rattle.pyr_top.specs.declared.refusal.Refusal.{Refusal}
 use Rattle.pyr_top.specs.declared.refusal.Refusal.TheVariants.{Usage, Source, Sink, Memory, TooLong, Program}
 use Rattle.pyr_top.specs.declared.status.Status as status
@@ -14,6 +14,9 @@ use Rattle.pyr_top.specs.Refusals.{status_of, line_of, too_long, IsToldAs}
 use Rattle.pyr_top.specs.OutputsText.{outputs_text}
 use Rattle.pyr_seq.specs.Sequential.{outputs_of}
 use Rattle.pyr_graph.specs.System.{datum_numbers}
+use Rattle.pyr_graph.specs.declared.clustering.Clustering.{Clustering}
+use Rattle.pyr_dsc.specs.Run.{IsRun}
+use Rattle.pyr_top.specs.ClusterReport.{cluster_report}
 use Rattle.pyr_graphtext.specs.declared.program_fault.ProgramFault.TheVariants as faults
 use Rattle.pyr_graphtext.specs.Program.{ProgramParts, tasks_of}
 use Rattle.pyr_graphtext.specs.Sequential.{IsOrder}
@@ -29,6 +32,14 @@ pub record Prints (input output : List ℕ) : Type 0 where
   pub text : output
       ≡ outputs_text program (outputs_of (tasks_of program 0) order (datum_numbers program.graph.prints))
 
+-- the input stands for a program, and the output is the report on its clustering
+pub record PrintsClusters (input output : List ℕ) : Type 0 where
+  pub program : ProgramParts
+  pub stands : StandsFor input program
+  pub clustering : Clustering
+  pub run : IsRun program.graph clustering
+  pub text : output ≡ cluster_report program clustering
+
 -- the input is a graph text with this first fault
 abbrev pub RefusesProgram : List ℕ → Refusal → Type 0
 RefusesProgram input (Program fault) = (fault ≢ faults.Memory) × IsFaultOf input fault
@@ -38,6 +49,8 @@ RefusesProgram input refusal = ⊥
 abbrev pub Gives : Command → List ℕ → Result (List ℕ) Refusal → Type 0
 Gives Seq input (Ok output) = Prints input output
 Gives Seq input (Err refusal) = RefusesProgram input refusal
+Gives Cluster input (Ok output) = PrintsClusters input output
+Gives Cluster input (Err refusal) = RefusesProgram input refusal
 
 -- a command refuses the input so, or memory ran out
 abbrev pub Refuses : Command → List ℕ → Refusal → Type 0

@@ -2,7 +2,7 @@
 use Rattle.std.specs.Prelude.{◌≡◌, ◌≢◌, ℕ, Bool, true, List, [], ◌∷◌, Option, Some, map, codes, String, string_bytes, IsTrue, if◌then◌else◌}
 use Rattle.std.specs.declared.alloc.Global.{Global}
 use Rattle.pyr_top.specs.declared.command.Command.{Command}
-use Rattle.pyr_top.specs.declared.command.Command.TheVariants.{Seq}
+use Rattle.pyr_top.specs.declared.command.Command.TheVariants.{Seq, Cluster}
 
 -- the bytes of each word
 abbrev pub texts : List (String Global) → List (List ℕ)
@@ -11,10 +11,12 @@ texts words = map string_bytes words
 -- the words of a command
 abbrev pub spelling : Command → List (List ℕ)
 spelling Seq = codes "seq" ∷ []
+spelling Cluster = codes "cluster" ∷ []
 
 -- the command reads the source to its end
 abbrev pub has_input : Command → Bool
 has_input Seq = true
+has_input Cluster = true
 
 -- the bytes that a command is given, where they are told: those that are left in the source, and none where it has no input
 abbrev pub input_of : Command → Option (List ℕ) → Option (List ℕ)

@@ -7,6 +7,8 @@ ghost use Rattle.pyr_top.specs.Commands.{texts, spelling, NoCommand};
 pub enum Command {
     /// Runs the tasks of a graph text one by one, and prints the printed data.
     Seq,
+    /// Clusters the tasks of a graph text, and tells the steps.
+    Cluster,
 }
 
 /// The command that the words spell, and `None` exactly where they spell none.
@@ -16,6 +18,7 @@ pub fn read_command(words: &[String]) -> Option<Command>
 {
     match words {
         [word] if word.as_str() == "seq" => Some(Command::Seq),
+        [word] if word.as_str() == "cluster" => Some(Command::Cluster),
         _ => None,
     }
 }

@@ -1,7 +1,9 @@
 //! The commands of the program, from the bytes that it reads to the bytes that it writes.
 #![tactic(auto)]
 
+mod cluster_report;
 mod command;
+mod decimals;
 mod messages;
 mod outputs_text;
 mod refusal;

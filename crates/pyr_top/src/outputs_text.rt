@@ -3,7 +3,7 @@ ghost use Rattle.std.specs.Prelude.{◌≡◌, ◌<◌, ◌++◌, ◌∷◌, [],
 ghost use Rattle.pyr_graph.specs.System.{datum_count};
 ghost use Rattle.pyr_top.specs.OutputsText.{output_line, outputs_text};
 
-use itoa::Buffer;
+use crate::decimals::put_number;
 use pyr_graphtext::Program;
 use pyr_num::{Name, Outputs};
 use std::alloc::{AllocError, Global};
@@ -33,17 +33,8 @@ fn put_line(text: &mut Vec<u8>, name: Name, words: &[u64]) -> Result<(), AllocEr
     text.extend_from_slice(name.bytes())?;
     text.extend_from_slice(b" =")?;
     for word in words {
-        put_word(text, *word)?;
+        put_number(text, *word)?;
     }
     text.extend_from_slice(b"\n")?;
-    Ok(())
-}
-
-fn put_word(text: &mut Vec<u8>, word: u64) -> Result<(), AllocError>
-    ensures { OnOk result (text.new.items ≡ text.old.items ++ 32 ∷ decimal word) }
-{
-    let mut buffer = Buffer::new();
-    text.push(b' ')?;
-    text.extend_from_slice(buffer.format(word).as_bytes())?;
     Ok(())
 }

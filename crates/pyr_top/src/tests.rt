@@ -40,6 +40,25 @@ put d2[i] = ((c2[i] * c0[0]) - (c0[i] * c2[0]))\ndone\nend\n\
 task u12 6\nreads d1 d2\nwrites e2\nfor i 3\n\
 put e2[i] = ((d2[i] * d1[1]) - (d1[i] * d2[1]))\ndone\nend\nprint e2\nprint d1\n";
 
+const HEAVY: &[u8] = b"data x 1 1\ndata y 1 1\ndata z 1 1\ndata w 1 0\n\
+task a 2\nwrites x\nend\ntask b 10\nreads x\nwrites y\nend\n\
+task c 10\nreads x\nwrites z\nend\ntask d 1\nreads y z\nwrites w\nend\nprint w\n";
+
+const CHAIN: &[u8] = b"data x 1 0\ndata y 1 0\n\
+task a 1\nwrites x\nend\ntask b 1\nreads x\nwrites y\nend\n";
+
+// At the step of `x` the cluster of `a` is kept for `y`.
+const RESERVED: &[u8] = b"data p 1 10\ndata q 1 6\ndata r 1 1\n\
+task a 2\nwrites p q\nend\ntask x 16\nreads q\nend\n\
+task b 1\nwrites r\nend\ntask y 20\nreads p r\nend\n";
+
+const FIVE: &[u8] = b"data x 1 1\ndata m 1 9\ndata y 1 1\ndata z 1 1\ndata w 1 0\n\
+task a 2\nwrites x\nput x[0] = 1\nend\n\
+task b 4\nreads x\nwrites m\nput m[0] = (x[0] + 1)\nend\n\
+task c 12\nreads x\nwrites z\nput z[0] = (x[0] + 2)\nend\n\
+task e 4\nreads m\nwrites y\nput y[0] = (m[0] + 1)\nend\n\
+task d 1\nreads y z\nwrites w\nput w[0] = (y[0] + z[0])\nend\nprint w\n";
+
 // Texts that are refused, with the status and the line of each.
 const REFUSED: [(&[u8], u8, &[u8]); 17] = [
     (b"", 8, b"no task\n"),
@@ -208,9 +227,13 @@ fn a_failing_err_changes_no_status(rt: HostRuntime) -> Result<(), Fail> {
     Ok(())
 }
 
-// What `seq` answers to a text: its status, its output and its line on `err`.
-fn seq(alloc: Global, text: &[u8]) -> Result<(u8, MemorySink, MemorySink), AllocError> {
-    let mut call = Call::new(alloc, &["seq"], text.to_vec(alloc)?)?;
+// What a command answers to a text: its status, its output and its line on `err`.
+fn told(
+    alloc: Global,
+    command: &str,
+    text: &[u8],
+) -> Result<(u8, MemorySink, MemorySink), AllocError> {
+    let mut call = Call::new(alloc, &[command], text.to_vec(alloc)?)?;
     let status = call.status(alloc);
     let Call {
         words: _,
@@ -229,8 +252,9 @@ fn seq_prints_the_printed_data(rt: HostRuntime) -> Result<(), Fail> {
         (ARITHMETIC, b"r = 0 0 5 1 22\n"),
         (LOOPS, b"x = 0\n"),
         (ELIMINATION, b"e2 = 0 0 18446744073709551556\nd1 = 0 6 6\n"),
+        (FIVE, b"w = 6\n"),
     ] {
-        let (status, out, err) = seq(rt.alloc(), text)?;
+        let (status, out, err) = told(rt.alloc(), "seq", text)?;
         assert_eq!(rt; status, 0);
         assert_eq!(rt; out.bytes(), output);
         assert_eq!(rt; err.bytes(), b"".as_slice());
@@ -239,12 +263,48 @@ fn seq_prints_the_printed_data(rt: HostRuntime) -> Result<(), Fail> {
 }
 
 #[test]
+fn cluster_tells_its_steps(rt: HostRuntime) -> Result<(), Fail> {
+    for (text, report) in [
+        (
+            DIAMOND,
+            b"pt 13\na 0 0 13\nc 0 2 12\nb 0 6 11\nd 0 9 10\nclusters 1\n".as_slice(),
+        ),
+        (
+            HEAVY,
+            b"pt 15\na 0 0 15\nb 0 2 15\nc 1 3 15\nd 1 13 14\nclusters 2\n",
+        ),
+        (CHAIN, b"pt 2\na 0 0 2\nb 1 1 2\nclusters 2\n"),
+        (
+            RESERVED,
+            b"pt 32\na 0 0 32\nx 1 8 32\nb 2 0 32\ny 0 2 24\nclusters 3\n",
+        ),
+        (
+            ELIMINATION,
+            b"pt 23\nl0 0 0 23\nl1 1 0 23\nu01 0 3 22\nl2 2 0 22\nu02 3 7 22\nu12 3 13 19\n\
+clusters 4\n",
+        ),
+        (
+            FIVE,
+            b"pt 22\na 0 0 22\nb 0 2 21\ne 0 6 17\nc 1 3 17\nd 1 15 16\nclusters 2\n",
+        ),
+    ] {
+        let (status, out, err) = told(rt.alloc(), "cluster", text)?;
+        assert_eq!(rt; status, 0);
+        assert_eq!(rt; out.bytes(), report);
+        assert_eq!(rt; err.bytes(), b"".as_slice());
+    }
+    Ok(())
+}
+
+#[test]
 fn each_fault_has_its_line(rt: HostRuntime) -> Result<(), Fail> {
     for (text, code, line) in REFUSED {
-        let (status, out, err) = seq(rt.alloc(), text)?;
-        assert_eq!(rt; status, code);
-        assert_eq!(rt; out.bytes(), b"".as_slice());
-        assert_eq!(rt; err.bytes(), line);
+        for command in ["seq", "cluster"] {
+            let (status, out, err) = told(rt.alloc(), command, text)?;
+            assert_eq!(rt; status, code);
+            assert_eq!(rt; out.bytes(), b"".as_slice());
+            assert_eq!(rt; err.bytes(), line);
+        }
     }
     Ok(())
 }

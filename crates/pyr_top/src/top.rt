@@ -4,14 +4,16 @@ ghost use Rattle.std.specs.Io.KnownBytes.{Appends};
 ghost use Rattle.pyr_port.specs.Causes.{Rose};
 ghost use Rattle.pyr_port.specs.Giving.{AppendsPrefix};
 ghost use Rattle.pyr_top.specs.Commands.{texts, NoCommand, ReadsInput};
-ghost use Rattle.pyr_top.specs.Answers.{Gives, Refuses, Prints, Delivers, Cause, IsRefused, IsRefusedAs, IsComplete};
+ghost use Rattle.pyr_top.specs.Answers.{Gives, Refuses, Prints, PrintsClusters, Delivers, Cause, IsRefused, IsRefusedAs, IsComplete};
 ghost use Rattle.pyr_top.specs.Answers.{IsReadToEnd, tells_of_input, Tells, IsTold};
 ghost use Rattle.pyr_top.specs.Refusals.{status_of, line_of};
 
+use crate::cluster_report::cluster_report;
 use crate::command::read_command;
 use crate::messages::fault_line;
 use crate::outputs_text::outputs_text;
 use crate::{Command, Refusal, Status};
+use pyr_dsc::cluster;
 use pyr_graphtext::{read_program, sequential};
 use pyr_num::Limits;
 use pyr_port::{Sink, Source, read_all, write_all};
@@ -128,6 +130,7 @@ fn output_of(alloc: Global, command: Command, input: &[u8]) -> Result<Vec<u8>, R
 {
     match command {
         Command::Seq => sequential_text(alloc, input),
+        Command::Cluster => cluster_text(alloc, input),
     }
 }
 
@@ -141,4 +144,15 @@ fn sequential_text(alloc: Global, input: &[u8]) -> Result<Vec<u8>, Refusal>
     let outputs = sequential(alloc, &program, 0)?;
     let _order = program.graph().topological();
     Ok(outputs_text(alloc, &program, &outputs)?)
+}
+
+// The steps in which the tasks of a graph text are clustered.
+fn cluster_text(alloc: Global, input: &[u8]) -> Result<Vec<u8>, Refusal>
+    requires { length input.now ≤ Limits.INPUT }
+    ensures ok { IfOk result (λ output. PrintsClusters input.now output.items) }
+    ensures refused { IfErr result (Refuses Command.Cluster input.now) }
+{
+    let program = read_program(alloc, input)?;
+    let clustering = cluster(alloc, program.graph())?;
+    Ok(cluster_report(alloc, &program, &clustering)?)
 }
