@@ -56,7 +56,7 @@ abbrev mutual
   code_text (Then op rest) = op_text op ++ code_text rest
 
 abbrev pub datum_text : RawDatum → List ℕ
-datum_text datum = codes "datum " ++ datum.name ++ spaced datum.length ++ 10 ∷ []
+datum_text datum = line (codes "datum " ++ datum.name) (datum.length ∷ [])
 
 abbrev pub task_text : RawTask → List ℕ
 task_text task =

@@ -1,6 +1,8 @@
 // Writing one line.
 ghost use Rattle.std.specs.Prelude.{◌≡◌, ◌++◌, map, OnOk};
+ghost use Rattle.std.specs.List.{AllByRecursion};
 ghost use Rattle.pyr_bundletext.specs.Text.{spaced, line};
+ghost use Rattle.pyr_bundletext.specs.Spelled.{IsWord};
 
 use itoa::Buffer;
 use pyr_num::DatumId;
@@ -16,8 +18,10 @@ pub(crate) fn put_number(text: &mut Vec<u8>, number: u64) -> Result<(), AllocErr
     Ok(())
 }
 
+#[tactic(auto, using(crate::proofs::PrintingLemmas::words_from))]
 pub(crate) fn put_line(text: &mut Vec<u8>, word: &[u8], numbers: &[u64]) -> Result<(), AllocError>
-    ensures { OnOk result (text.new.items ≡ text.old.items ++ line word.now numbers.now) }
+    ensures text { OnOk result (text.new.items ≡ text.old.items ++ line word.now numbers.now) }
+    ensures words { AllByRecursion IsWord numbers.now }
 {
     text.extend_from_slice(word)?;
     for number in numbers {
@@ -33,8 +37,9 @@ pub(crate) fn put_datum_ids(
     word: &[u8],
     datums: &[DatumId],
 ) -> Result<(), AllocError>
-    ensures { OnOk result
+    ensures text { OnOk result
         (text.new.items ≡ text.old.items ++ line word.now (map (λ d. d.0) datums.now)) }
+    ensures words { OnOk result (AllByRecursion IsWord (map (λ d. d.0) datums.now)) }
 {
     text.extend_from_slice(word)?;
     for datum in datums {

@@ -1,8 +1,11 @@
 // Writing a bundle: one function for each list.
-ghost use Rattle.std.specs.Prelude.{◌≡◌, ◌++◌, map, OnOk, IfOk};
-ghost use Rattle.std.specs.List.{flat_map};
+ghost use Rattle.std.specs.Prelude.{◌≡◌, ◌++◌, true, map, OnOk, IfOk};
+ghost use Rattle.std.specs.List.{flat_map, AllByRecursion};
+ghost use Rattle.pyr_num.specs.Name.{is_name};
 ghost use Rattle.pyr_bundle.specs.Parts.{raw_of, raw_task_of, raw_instr_of, raw_channel_of};
 ghost use Rattle.pyr_bundletext.specs.Text.{datum_text, task_text, print_text, channel_text, instr_text, processors_text, text_of};
+ghost use Rattle.pyr_bundletext.specs.Spelled.{IsWord, IsSpelledTask, IsSpelledChannel, IsSpelledInstr};
+ghost use Rattle.pyr_bundletext.specs.Answer.{StandsFor};
 
 use crate::lines::{put_datum_ids, put_line, put_number};
 use crate::ops::put_ops;
@@ -11,7 +14,8 @@ use pyr_num::{DatumId, ProcId, TaskId};
 use std::alloc::{AllocError, Global};
 
 pub(crate) fn put_datum(text: &mut Vec<u8>, datum: RawDatum) -> Result<(), AllocError>
-    ensures { OnOk result (text.new.items ≡ text.old.items ++ datum_text datum) }
+    ensures text { OnOk result (text.new.items ≡ text.old.items ++ datum_text datum) }
+    ensures named { is_name datum.name ≡ true }
 {
     text.extend_from_slice(b"datum ")?;
     text.extend_from_slice(datum.name.bytes())?;
@@ -21,8 +25,9 @@ pub(crate) fn put_datum(text: &mut Vec<u8>, datum: RawDatum) -> Result<(), Alloc
 }
 
 fn put_datums(text: &mut Vec<u8>, bundle: &Bundle) -> Result<(), AllocError>
-    ensures { OnOk result
+    ensures text { OnOk result
         (text.new.items ≡ text.old.items ++ flat_map datum_text bundle.now.datums) }
+    ensures names { OnOk result (AllByRecursion (λ d. is_name d.name ≡ true) bundle.now.datums) }
 {
     for d in 0..bundle.datum_count() {
         put_datum(text, bundle.datum(DatumId(d)))?;
@@ -31,8 +36,9 @@ fn put_datums(text: &mut Vec<u8>, bundle: &Bundle) -> Result<(), AllocError>
 }
 
 fn put_task(text: &mut Vec<u8>, task: &BundleTask) -> Result<(), AllocError>
-    ensures { OnOk result
+    ensures text { OnOk result
         (text.new.items ≡ text.old.items ++ task_text (raw_task_of task.now)) }
+    ensures words { OnOk result (IsSpelledTask (raw_task_of task.now)) }
 {
     put_line(text, b"task", &[u64::from(task.code.shape().locals)])?;
     put_datum_ids(text, b"reads", task.reads.as_slice())?;
@@ -42,8 +48,10 @@ fn put_task(text: &mut Vec<u8>, task: &BundleTask) -> Result<(), AllocError>
 }
 
 fn put_tasks(text: &mut Vec<u8>, bundle: &Bundle) -> Result<(), AllocError>
-    ensures { OnOk result (text.new.items ≡ text.old.items
+    ensures text { OnOk result (text.new.items ≡ text.old.items
         ++ flat_map task_text (map raw_task_of bundle.now.tasks)) }
+    ensures words { OnOk result
+        (AllByRecursion IsSpelledTask (map raw_task_of bundle.now.tasks)) }
 {
     for t in 0..bundle.task_count() {
         put_task(text, bundle.task(TaskId(t)))?;
@@ -52,8 +60,9 @@ fn put_tasks(text: &mut Vec<u8>, bundle: &Bundle) -> Result<(), AllocError>
 }
 
 pub(crate) fn put_prints(text: &mut Vec<u8>, prints: &[DatumId]) -> Result<(), AllocError>
-    ensures { OnOk result (text.new.items ≡ text.old.items
+    ensures text { OnOk result (text.new.items ≡ text.old.items
         ++ flat_map print_text (map (λ d. d.0) prints.now)) }
+    ensures words { OnOk result (AllByRecursion IsWord (map (λ d. d.0) prints.now)) }
 {
     for datum in prints {
         put_line(text, b"print", &[u64::from(datum.0)])?;
@@ -62,8 +71,9 @@ pub(crate) fn put_prints(text: &mut Vec<u8>, prints: &[DatumId]) -> Result<(), A
 }
 
 fn put_channel(text: &mut Vec<u8>, channel: Capacity) -> Result<(), AllocError>
-    ensures { OnOk result
+    ensures text { OnOk result
         (text.new.items ≡ text.old.items ++ channel_text (raw_channel_of channel)) }
+    ensures words { IsSpelledChannel (raw_channel_of channel) }
 {
     let from = u64::from(channel.from.0);
     let to = u64::from(channel.to.0);
@@ -71,8 +81,10 @@ fn put_channel(text: &mut Vec<u8>, channel: Capacity) -> Result<(), AllocError>
 }
 
 pub(crate) fn put_channels(text: &mut Vec<u8>, channels: &[Capacity]) -> Result<(), AllocError>
-    ensures { OnOk result (text.new.items ≡ text.old.items
+    ensures text { OnOk result (text.new.items ≡ text.old.items
         ++ flat_map channel_text (map raw_channel_of channels.now)) }
+    ensures words { OnOk result
+        (AllByRecursion IsSpelledChannel (map raw_channel_of channels.now)) }
 {
     for channel in channels {
         put_channel(text, *channel)?;
@@ -81,7 +93,9 @@ pub(crate) fn put_channels(text: &mut Vec<u8>, channels: &[Capacity]) -> Result<
 }
 
 fn put_instr(text: &mut Vec<u8>, instr: Instr) -> Result<(), AllocError>
-    ensures { OnOk result (text.new.items ≡ text.old.items ++ instr_text (raw_instr_of instr)) }
+    ensures text { OnOk result
+        (text.new.items ≡ text.old.items ++ instr_text (raw_instr_of instr)) }
+    ensures words { IsSpelledInstr (raw_instr_of instr) }
 {
     match instr {
         Instr::Recv { from, datum } => {
@@ -95,8 +109,9 @@ fn put_instr(text: &mut Vec<u8>, instr: Instr) -> Result<(), AllocError>
 }
 
 pub(crate) fn put_instrs(text: &mut Vec<u8>, code: &[Instr]) -> Result<(), AllocError>
-    ensures { OnOk result (text.new.items ≡ text.old.items
+    ensures text { OnOk result (text.new.items ≡ text.old.items
         ++ flat_map instr_text (map raw_instr_of code.now)) }
+    ensures words { OnOk result (AllByRecursion IsSpelledInstr (map raw_instr_of code.now)) }
 {
     for instr in code {
         put_instr(text, *instr)?;
@@ -105,8 +120,10 @@ pub(crate) fn put_instrs(text: &mut Vec<u8>, code: &[Instr]) -> Result<(), Alloc
 }
 
 fn put_processors(text: &mut Vec<u8>, bundle: &Bundle) -> Result<(), AllocError>
-    ensures { OnOk result (text.new.items ≡ text.old.items
+    ensures text { OnOk result (text.new.items ≡ text.old.items
         ++ processors_text 0 (map (map raw_instr_of) bundle.now.code)) }
+    ensures words { OnOk result (AllByRecursion (AllByRecursion IsSpelledInstr)
+        (map (map raw_instr_of) bundle.now.code)) }
 {
     for p in 0..bundle.processors() {
         put_line(text, b"processor", &[u64::from(p)])?;
@@ -118,8 +135,12 @@ fn put_processors(text: &mut Vec<u8>, bundle: &Bundle) -> Result<(), AllocError>
 /// The text of a bundle, in its one spelling.
 #[tactic(auto, unfolding(crate::specs::Text::text_of))]
 pub fn print_bundle(alloc: Global, bundle: &Bundle) -> Result<Vec<u8>, AllocError>
-    ensures { IfOk result (λ text. text.items ≡ text_of (raw_of bundle.now)) }
+    // this very text
+    ensures text { IfOk result (λ text. text.items ≡ text_of (raw_of bundle.now)) }
+    // `read_bundle` answers these parts and nothing else, by `one_answer_is_told`
+    ensures read_again { IfOk result (λ text. StandsFor text.items (raw_of bundle.now)) }
 {
+    bundle.is_bundle();
     let mut text = Vec::new(alloc);
     put_line(&mut text, b"pyrros", &[1])?;
     put_line(&mut text, b"processors", &[u64::from(bundle.processors())])?;

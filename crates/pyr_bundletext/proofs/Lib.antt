@@ -1,0 +1,11 @@
+pub mod Cuts
+pub mod CodeLemmas
+pub mod WordLemmas
+pub mod LineLemmas
+pub mod TextLemmas
+pub mod LimitLemmas
+pub mod SpelledLemmas
+pub mod ReadingLemmas
+pub mod WritingLemmas
+pub mod OneAnswer
+pub mod PrintingLemmas
