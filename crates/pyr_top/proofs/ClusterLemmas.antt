@@ -1,5 +1,5 @@
--- The steps of a clustering are steps of tasks, and a graph text has one report.
-use Rattle.std.proofs.Common.{◌≡◌, ℕ, ◌<◌, List, [], ◌∷◌, ◌++◌, All, codes, decimal, length, sym, ap, subst, ◌∙◌}
+-- The steps of a clustering are steps of tasks, and a program has one report.
+use Rattle.std.proofs.Common.{◌≡◌, ℕ, ◌<◌, List, [], ◌∷◌, ◌++◌, All, codes, decimal, length, sym, ap, ◌∙◌}
 use Rattle.std.proofs.lemmas.List.{length-map}
 use Rattle.std.proofs.lemmas.List.Elements.{All-nil, All-cons}
 use Rattle.pyr_graph.specs.declared.clustering.Step.{Step}
@@ -7,13 +7,12 @@ use Rattle.pyr_graph.specs.declared.clustering.Clustering.{Clustering}
 use Rattle.pyr_graph.specs.System.{System, task_count, task_numbers}
 use Rattle.pyr_graph.specs.Clusters.{cluster_numbers}
 use Rattle.pyr_graphtext.specs.Program.{ProgramParts}
-use Rattle.pyr_graphtext.proofs.OneAnswer.{one_answer_is_told}
 use Rattle.pyr_dsc.specs.Run.{IsRun, AreSteps, state}
 use Rattle.pyr_dsc.proofs.HeadLemmas.{next_free-free}
 use Rattle.pyr_dsc.proofs.UniqueLemmas.{one-run}
 use Rattle.std.specs.List.{flat_map}
 use Rattle.pyr_top.specs.ClusterReport.{step_line, cluster_report}
-use Rattle.pyr_top.specs.Answers.{PrintsClusters}
+use Rattle.pyr_top.specs.Answers.{IsClusterReport}
 
 -- each step examines a task
 steps_in : (s : System) (blevels : List ℕ) (clusters : List (List ℕ)) (steps : List Step) (after : List (List ℕ)) → AreSteps s blevels clusters steps after → All (λ step. step.task.0 < task_count s) steps
@@ -40,12 +39,7 @@ same_report p c d first second =
     let count : length c.clusters ≡ length d.clusters = same_count p.graph c d first second in
     λ i. codes "pt" ++ 32 ∷ decimal (times i) ++ codes "\n" ++ flat_map (step_line p) (steps i) ++ codes "clusters" ++ 32 ∷ decimal (count i) ++ codes "\n"
 
--- a graph text has one report on its clustering
-pub one_report : (input a b : List ℕ) → PrintsClusters input a → PrintsClusters input b → a ≡ b
-one_report input a b first second =
-    let same : first.program ≡ second.program = one_answer_is_told.one_program input first.program second.program first.stands second.stands in
-    let run : IsRun second.program.graph first.clustering = subst (λ (p : ProgramParts). IsRun p.graph first.clustering) same first.run in
-    first.text
-    ∙ ap (λ (p : ProgramParts). cluster_report p first.clustering) same
-    ∙ same_report second.program first.clustering second.clustering run second.run
-    ∙ sym second.text
+-- a program has one report on its clustering
+pub one_cluster_report : (p : ProgramParts) (a b : List ℕ) → IsClusterReport p a → IsClusterReport p b → a ≡ b
+one_cluster_report p a b first second =
+    first.text ∙ same_report p first.clustering second.clustering first.run second.run ∙ sym second.text

@@ -1,4 +1,6 @@
-pub mod Words
+pub mod NumeralLemmas
 pub mod OutputLemmas
 pub mod ClusterLemmas
+pub mod OneCommand
+pub mod OneAnswer
 pub mod Answering

@@ -4,53 +4,60 @@ use Rattle.std.specs.Io.KnownBytes.{Appends, IsAtEnd}
 use Rattle.pyr_num.specs.declared.limits.TheConstants.Limits.{INPUT}
 use Rattle.pyr_port.specs.Giving.{AppendsPrefix}
 use Rattle.pyr_top.specs.declared.command.Command.{Command}
-use Rattle.pyr_top.specs.declared.command.Command.TheVariants.{Seq, Cluster}
+use Rattle.pyr_top.specs.declared.command.Command.TheVariants.{Seq, Cluster, Make}
 use Rattle.pyr_top.specs.declared.refusal.Refusal.{Refusal}
 use Rattle.pyr_top.specs.declared.refusal.Refusal.TheVariants.{Usage, Source, Sink, Memory, TooLong, Program}
 use Rattle.pyr_top.specs.declared.status.Status as status
 use Rattle.pyr_top.specs.declared.status.Status.TheVariants as statuses
-use Rattle.pyr_top.specs.Commands.{spelling, input_of, NoCommand, ReadsInput}
+use Rattle.pyr_top.specs.Commands.{input_of, Spells, NoCommand, ReadsInput}
 use Rattle.pyr_top.specs.Refusals.{status_of, line_of, too_long, IsToldAs}
 use Rattle.pyr_top.specs.OutputsText.{outputs_text}
 use Rattle.pyr_seq.specs.Sequential.{outputs_of}
 use Rattle.pyr_graph.specs.System.{datum_numbers}
 use Rattle.pyr_graph.specs.declared.clustering.Clustering.{Clustering}
 use Rattle.pyr_dsc.specs.Run.{IsRun}
+use Rattle.pyr_make.specs.Layered.{layered_program}
 use Rattle.pyr_top.specs.ClusterReport.{cluster_report}
 use Rattle.pyr_graphtext.specs.declared.program_fault.ProgramFault.TheVariants as faults
 use Rattle.pyr_graphtext.specs.Program.{ProgramParts, tasks_of}
+use Rattle.pyr_graphtext.specs.Canonical.{program_text}
 use Rattle.pyr_graphtext.specs.Sequential.{IsOrder}
 use Rattle.pyr_graphtext.specs.Answer.{StandsFor, IsFaultOf}
 
--- the input stands for a program, and the output is what its tasks, run one by one in a topological
--- order, print
-pub record Prints (input output : List ℕ) : Type 0 where
-  pub program : ProgramParts
-  pub stands : StandsFor input program
+-- what the tasks of a program print, run one by one in a topological order
+pub record IsPrinted (program : ProgramParts) (output : List ℕ) : Type 0 where
   pub order : List ℕ
   pub ordered : IsOrder program.graph order
   pub text : output
       ≡ outputs_text program (outputs_of (tasks_of program 0) order (datum_numbers program.graph.prints))
 
--- the input stands for a program, and the output is the report on its clustering
-pub record PrintsClusters (input output : List ℕ) : Type 0 where
-  pub program : ProgramParts
-  pub stands : StandsFor input program
+-- the report on the clustering of a program
+pub record IsClusterReport (program : ProgramParts) (output : List ℕ) : Type 0 where
   pub clustering : Clustering
   pub run : IsRun program.graph clustering
   pub text : output ≡ cluster_report program clustering
+
+-- the input stands for a program, and the output is such a text of it
+pub record IsTextFor (IsText : ProgramParts → List ℕ → Type 0) (input output : List ℕ) : Type 0 where
+  pub program : ProgramParts
+  pub stands : StandsFor input program
+  pub text : IsText program output
 
 -- the input is a graph text with this first fault
 abbrev pub RefusesProgram : List ℕ → Refusal → Type 0
 RefusesProgram input (Program fault) = (fault ≢ faults.Memory) × IsFaultOf input fault
 RefusesProgram input refusal = ⊥
 
+-- what a command makes of a graph text: such a text of its program, or its refusal
+abbrev pub GivesText : (ProgramParts → List ℕ → Type 0) → List ℕ → Result (List ℕ) Refusal → Type 0
+GivesText IsText input (Ok output) = IsTextFor IsText input output
+GivesText IsText input (Err refusal) = RefusesProgram input refusal
+
 -- what a command gives for an input within the limit: its output, or its refusal
 abbrev pub Gives : Command → List ℕ → Result (List ℕ) Refusal → Type 0
-Gives Seq input (Ok output) = Prints input output
-Gives Seq input (Err refusal) = RefusesProgram input refusal
-Gives Cluster input (Ok output) = PrintsClusters input output
-Gives Cluster input (Err refusal) = RefusesProgram input refusal
+Gives Seq input given = GivesText IsPrinted input given
+Gives Cluster input given = GivesText IsClusterReport input given
+Gives (Make tasks) input given = given ≡ Ok (program_text (layered_program tasks))
 
 -- a command refuses the input so, or memory ran out
 abbrev pub Refuses : Command → List ℕ → Refusal → Type 0
@@ -63,11 +70,16 @@ pub record Answers (command : Command) (input : List ℕ) (given : Result (List 
   pub within : length input ≤ INPUT → Gives command input given
   pub above : INPUT < length input → given ≡ Err too_long
 
+-- where the input of a command is told, its defined answer is such
+abbrev pub IsGiven : Command → Option (List ℕ) → (Result (List ℕ) Refusal → Type 0) → Type 0
+IsGiven command left IsSuch =
+    IfSome (input_of command left) (λ input. (given : Result (List ℕ) Refusal) × Answers command input given × IsSuch given)
+
 -- the words are a command, and where its input is told, the defined answer is such
 pub record IsAnswered (words : List (List ℕ)) (left : Option (List ℕ)) (IsSuch : Result (List ℕ) Refusal → Type 0) : Type 0 where
   pub command : Command
-  pub spelled : words ≡ spelling command
-  pub answer : IfSome (input_of command left) (λ input. (given : Result (List ℕ) Refusal) × Answers command input given × IsSuch given)
+  pub spelled : Spells words command
+  pub answer : IsGiven command left IsSuch
 
 -- the defined answer is an output, which was written so
 abbrev pub Delivers : List (List ℕ) → Option (List ℕ) → (List ℕ → Type 0) → Type 0
@@ -113,7 +125,7 @@ EndsAs old new ended (Err refusal) = ended ≡ status_of refusal
 abbrev pub IsComplete : List (List ℕ) → Option (List ℕ) → Option (List ℕ) → Option (List ℕ) → status.Status → Type 0
 IsComplete words left old new ended =
     (command : Command)
-    → words ≡ spelling command
+    → Spells words command
     → IfSome (input_of command left) (λ input. (given : Result (List ℕ) Refusal)
     → Answers command input given
     → EndsAs old new ended given ⊎ (ended ≡ statuses.Memory))

@@ -1,8 +1,9 @@
 -- The commands: the words that spell each, and whether it has an input.
-use Rattle.std.specs.Prelude.{◌≡◌, ◌≢◌, ℕ, Bool, true, List, [], ◌∷◌, Option, Some, map, codes, String, string_bytes, IsTrue, if◌then◌else◌}
+use Rattle.std.specs.Prelude.{◌≡◌, ⊤, ℕ, ◌≤◌, Bool, true, false, List, [], ◌∷◌, Option, Some, map, codes, decimal, String, string_bytes, IsTrue, if◌then◌else◌}
 use Rattle.std.specs.declared.alloc.Global.{Global}
+use Rattle.pyr_num.specs.declared.limits.TheConstants.Limits.{TASKS}
 use Rattle.pyr_top.specs.declared.command.Command.{Command}
-use Rattle.pyr_top.specs.declared.command.Command.TheVariants.{Seq, Cluster}
+use Rattle.pyr_top.specs.declared.command.Command.TheVariants.{Seq, Cluster, Make}
 
 -- the bytes of each word
 abbrev pub texts : List (String Global) → List (List ℕ)
@@ -12,22 +13,35 @@ texts words = map string_bytes words
 abbrev pub spelling : Command → List (List ℕ)
 spelling Seq = codes "seq" ∷ []
 spelling Cluster = codes "cluster" ∷ []
+spelling (Make tasks) = codes "make" ∷ decimal tasks ∷ []
+
+-- the number of a command is in its range
+abbrev pub IsWithinRange : Command → Type 0
+IsWithinRange Seq = ⊤
+IsWithinRange Cluster = ⊤
+IsWithinRange (Make tasks) = (1 ≤ tasks) × (tasks ≤ TASKS)
+
+-- the words ask for the command
+pub record Spells (words : List (List ℕ)) (command : Command) : Type 0 where
+  pub text : words ≡ spelling command
+  pub range : IsWithinRange command
 
 -- the command reads the source to its end
 abbrev pub has_input : Command → Bool
 has_input Seq = true
 has_input Cluster = true
+has_input (Make tasks) = false
 
 -- the bytes that a command is given, where they are told: those that are left in the source, and none where it has no input
 abbrev pub input_of : Command → Option (List ℕ) → Option (List ℕ)
 input_of command left = if has_input command then left else Some []
 
--- the words are those of no command
+-- the words ask for no command
 abbrev pub NoCommand : List (List ℕ) → Type 0
-NoCommand words = (command : Command) → words ≢ spelling command
+NoCommand words = (command : Command) → Spells words command → ⊥
 
--- the words are those of a command with an input
+-- the words ask for a command with an input
 pub record ReadsInput (words : List (List ℕ)) : Type 0 where
   pub command : Command
-  pub spelled : words ≡ spelling command
+  pub spelled : Spells words command
   pub input : IsTrue (has_input command)

@@ -2,6 +2,8 @@ pub mod Status
 pub mod Messages
 pub mod Refusals
 pub mod Commands
+pub mod Numerals
 pub mod OutputsText
 pub mod ClusterReport
 pub mod Answers
+pub mod Responding

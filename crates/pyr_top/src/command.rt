@@ -1,6 +1,10 @@
 // The commands, and the words that spell them.
-ghost use Rattle.std.specs.Prelude.{◌≡◌, IfSome, IfNone};
-ghost use Rattle.pyr_top.specs.Commands.{texts, spelling, NoCommand};
+ghost use Rattle.std.specs.Prelude.{◌≡◌, ◌∷◌, [], IfSome, IfNone};
+ghost use Rattle.pyr_top.specs.Commands.{texts, has_input, Spells, NoCommand};
+ghost use Rattle.pyr_top.specs.Numerals.{IsNumeralIn, NoNumeralIn};
+
+use pyr_lex::number;
+use pyr_num::Limits;
 
 /// What the program is asked to do.
 #[derive(Clone, Copy, Debug, PartialEq, Eq)]
@@ -9,16 +13,68 @@ pub enum Command {
     Seq,
     /// Clusters the tasks of a graph text, and tells the steps.
     Cluster,
+    /// Writes the text of a generated graph of this many tasks, from 1 to `Limits::TASKS`.
+    Make(u32),
 }
 
-/// The command that the words spell, and `None` exactly where they spell none.
+impl Command {
+    /// Whether the command reads an input.
+    pub fn has_input(self) -> bool
+        ensures { result ≡ has_input self }
+    {
+        match self {
+            Command::Seq | Command::Cluster => true,
+            Command::Make(_) => false,
+        }
+    }
+}
+
+/// The command that the words spell, and `None` exactly where they spell none. Numbers are written in
+/// decimal, without leading zeros. It takes no memory.
 pub fn read_command(words: &[String]) -> Option<Command>
-    ensures some { IfSome result (λ command. texts words.now ≡ spelling command) }
+    ensures some { IfSome result (Spells (texts words.now)) }
     ensures none { IfNone result (NoCommand (texts words.now)) }
 {
     match words {
-        [word] if word.as_str() == "seq" => Some(Command::Seq),
-        [word] if word.as_str() == "cluster" => Some(Command::Cluster),
+        [word] => plain_command(word.as_str()),
+        [word, text] => numbered_command(word.as_str(), text.as_str()),
         _ => None,
+    }
+}
+
+// The command of one word.
+fn plain_command(word: &str) -> Option<Command>
+    ensures some { IfSome result (Spells (word.now ∷ [])) }
+    ensures none { IfNone result (NoCommand (word.now ∷ [])) }
+{
+    match word {
+        "seq" => Some(Command::Seq),
+        "cluster" => Some(Command::Cluster),
+        _ => None,
+    }
+}
+
+// The command of a word with a number behind it.
+fn numbered_command(word: &str, text: &str) -> Option<Command>
+    ensures some { IfSome result (Spells (word.now ∷ text.now ∷ [])) }
+    ensures none { IfNone result (NoCommand (word.now ∷ text.now ∷ [])) }
+{
+    match word {
+        "make" => Some(Command::Make(number_in(text, 1, Limits::TASKS)?)),
+        _ => None,
+    }
+}
+
+// The number that the text writes, where it is in this range.
+#[tactic(auto, using(crate::proofs::NumeralLemmas::numerals))]
+fn number_in(text: &str, least: u32, most: u32) -> Option<u32>
+    ensures some { IfSome result (IsNumeralIn text.now least most) }
+    ensures none { IfNone result (NoNumeralIn text.now least most) }
+{
+    let found = u32::try_from(number(text.as_bytes())?).ok()?;
+    if (least..=most).contains(&found) {
+        Some(found)
+    } else {
+        None
     }
 }

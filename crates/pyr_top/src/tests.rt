@@ -125,6 +125,9 @@ fn plan(alloc: Global, most: usize, fail: &[u32]) -> Result<CallPlan, AllocError
 // The most bytes of a call, where a plan doesn't matter.
 const MANY: usize = 1_000_000;
 
+// The room of a sink, where it doesn't matter.
+const ROOM: usize = 10_000;
+
 // One call of `answer`: what it is given, and what it leaves.
 #[derive(Drop)]
 struct Call {
@@ -143,8 +146,8 @@ impl Call {
         Ok(Call {
             words: spelled,
             source: MemorySource::new(text, plan(alloc, MANY, &[])?),
-            out: MemorySink::new(alloc, 100, plan(alloc, MANY, &[])?)?,
-            err: MemorySink::new(alloc, 100, plan(alloc, MANY, &[])?)?,
+            out: MemorySink::new(alloc, ROOM, plan(alloc, MANY, &[])?)?,
+            err: MemorySink::new(alloc, ROOM, plan(alloc, MANY, &[])?)?,
         })
     }
 
@@ -206,7 +209,23 @@ fn each_call_of_the_sink_fails_in_turn(rt: HostRuntime) -> Result<(), Fail> {
 #[test]
 fn words_that_are_no_command(rt: HostRuntime) -> Result<(), Fail> {
     let alloc = rt.alloc();
-    for words in [[].as_slice(), &["seq", "x"], &["run"], &["Seq"]] {
+    for words in [
+        [].as_slice(),
+        &["seq", "x"],
+        &["run"],
+        &["Seq"],
+        &["gantt"],
+        &["gantt", "0"],
+        &["gantt", "65"],
+        &["gantt", "01"],
+        &["gantt", "2", "2"],
+        &["make"],
+        &["make", "0"],
+        &["make", "4097"],
+        &["make", "01"],
+        &["make", "1x"],
+        &["make", "18446744073709551617"],
+    ] {
         let mut call = Call::new(alloc, words, SEVEN.to_vec(alloc)?)?;
         assert_eq!(rt; call.status(alloc), 2);
         assert_eq!(rt; call.out.bytes(), b"".as_slice());
@@ -227,13 +246,13 @@ fn a_failing_err_changes_no_status(rt: HostRuntime) -> Result<(), Fail> {
     Ok(())
 }
 
-// What a command answers to a text: its status, its output and its line on `err`.
+// What the words are answered with a text: the status, the output and the line on `err`.
 fn told(
     alloc: Global,
-    command: &str,
+    words: &[&str],
     text: &[u8],
 ) -> Result<(u8, MemorySink, MemorySink), AllocError> {
-    let mut call = Call::new(alloc, &[command], text.to_vec(alloc)?)?;
+    let mut call = Call::new(alloc, words, text.to_vec(alloc)?)?;
     let status = call.status(alloc);
     let Call {
         words: _,
@@ -254,7 +273,7 @@ fn seq_prints_the_printed_data(rt: HostRuntime) -> Result<(), Fail> {
         (ELIMINATION, b"e2 = 0 0 18446744073709551556\nd1 = 0 6 6\n"),
         (FIVE, b"w = 6\n"),
     ] {
-        let (status, out, err) = told(rt.alloc(), "seq", text)?;
+        let (status, out, err) = told(rt.alloc(), &["seq"], text)?;
         assert_eq!(rt; status, 0);
         assert_eq!(rt; out.bytes(), output);
         assert_eq!(rt; err.bytes(), b"".as_slice());
@@ -288,7 +307,7 @@ clusters 4\n",
             b"pt 22\na 0 0 22\nb 0 2 21\ne 0 6 17\nc 1 3 17\nd 1 15 16\nclusters 2\n",
         ),
     ] {
-        let (status, out, err) = told(rt.alloc(), "cluster", text)?;
+        let (status, out, err) = told(rt.alloc(), &["cluster"], text)?;
         assert_eq!(rt; status, 0);
         assert_eq!(rt; out.bytes(), report);
         assert_eq!(rt; err.bytes(), b"".as_slice());
@@ -297,10 +316,29 @@ clusters 4\n",
 }
 
 #[test]
+fn make_writes_the_generated_graph(rt: HostRuntime) -> Result<(), Fail> {
+    let alloc = rt.alloc();
+    let mut call = Call::new(alloc, &["make", "1"], SEVEN.to_vec(alloc)?)?;
+    assert_eq!(rt; call.status(alloc), 0);
+    let text = b"data d0 1 0\ntask t0 1\nwrites d0\nput d0[0] = (frame + 0)\nend\nprint d0\n";
+    assert_eq!(rt; call.out.bytes(), text.as_slice());
+    assert_eq!(rt; call.err.bytes(), b"".as_slice());
+    let mut rest = [0; 100];
+    assert_eq!(rt; call.source.take(&mut rest), Ok(SEVEN.len()));
+
+    let (made, layers, _) = told(alloc, &["make", "66"], b"")?;
+    assert_eq!(rt; made, 0);
+    let (run, out, _) = told(alloc, &["seq"], layers.bytes())?;
+    assert_eq!(rt; run, 0);
+    assert_eq!(rt; out.bytes(), b"d64 = 65\nd65 = 74\n".as_slice());
+    Ok(())
+}
+
+#[test]
 fn each_fault_has_its_line(rt: HostRuntime) -> Result<(), Fail> {
     for (text, code, line) in REFUSED {
-        for command in ["seq", "cluster"] {
-            let (status, out, err) = told(rt.alloc(), command, text)?;
+        for words in [["seq"].as_slice(), &["cluster"]] {
+            let (status, out, err) = told(rt.alloc(), words, text)?;
             assert_eq!(rt; status, code);
             assert_eq!(rt; out.bytes(), b"".as_slice());
             assert_eq!(rt; err.bytes(), line);

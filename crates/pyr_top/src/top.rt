@@ -1,11 +1,15 @@
 // The top call.
-ghost use Rattle.std.specs.Prelude.{◌≡◌, ◌≢◌, ◌⊎◌, ◌↔◌, ◌≤◌, ℕ, List, length, IfOk, IfErr, OnOk, IsTrue};
+ghost use Rattle.std.specs.Prelude.{◌≡◌, ◌≢◌, ◌⊎◌, ◌↔◌, ◌≤◌, ℕ, List, length, IfOk, IfErr, OnOk, IsTrue, vec_len};
 ghost use Rattle.std.specs.Io.KnownBytes.{Appends};
 ghost use Rattle.pyr_port.specs.Causes.{Rose};
 ghost use Rattle.pyr_port.specs.Giving.{AppendsPrefix};
-ghost use Rattle.pyr_top.specs.Commands.{texts, NoCommand, ReadsInput};
-ghost use Rattle.pyr_top.specs.Answers.{Gives, Refuses, Prints, PrintsClusters, Delivers, Cause, IsRefused, IsRefusedAs, IsComplete};
+ghost use Rattle.pyr_graphtext.specs.Canonical.{program_text};
+ghost use Rattle.pyr_make.specs.Layered.{layered_program};
+ghost use Rattle.pyr_top.specs.Commands.{texts, has_input, IsWithinRange, NoCommand, ReadsInput};
+ghost use Rattle.pyr_top.specs.Answers.{IsPrinted, IsClusterReport, IsTextFor};
+ghost use Rattle.pyr_top.specs.Answers.{Gives, Refuses, IsGiven, Delivers, Cause, IsRefused, IsRefusedAs, IsComplete};
 ghost use Rattle.pyr_top.specs.Answers.{IsReadToEnd, tells_of_input, Tells, IsTold};
+ghost use Rattle.pyr_top.specs.Responding.{IsInput, CauseOf, ReachesEnd};
 ghost use Rattle.pyr_top.specs.Refusals.{status_of, line_of};
 
 use crate::cluster_report::cluster_report;
@@ -14,7 +18,8 @@ use crate::messages::fault_line;
 use crate::outputs_text::outputs_text;
 use crate::{Command, Refusal, Status};
 use pyr_dsc::cluster;
-use pyr_graphtext::{read_program, sequential};
+use pyr_graphtext::{print_program, read_program, sequential};
+use pyr_make::make;
 use pyr_num::Limits;
 use pyr_port::{Sink, Source, read_all, write_all};
 use std::alloc::Global;
@@ -106,7 +111,7 @@ fn respond<S: Source, O: Sink>(
         (Rose (O.faults out.old) (O.faults out.new)) refusal) }
     ensures usage { NoCommand (texts words.now) → result ≡ Err Refusal.Usage }
 
-    ensures unread { result ≡ Err Refusal.Usage → source.new ≡ source.old }
+    ensures unread { ¬ ReadsInput (texts words.now) → source.new ≡ source.old }
     ensures read_to_end { OnOk result
         (IsReadToEnd (texts words.now) (S.left source.old) (S.left source.new)) }
     ensures refused_at_end { IfErr result (λ refusal. IsTrue (tells_of_input (status_of refusal))
@@ -116,28 +121,70 @@ fn respond<S: Source, O: Sink>(
         (AppendsPrefix (O.written out.old) (O.written out.new)) }
 {
     let command = read_command(words).ok_or(Refusal::Usage)?;
-    let input = read_all(alloc, source, Limits::INPUT)?;
-    let output = output_of(alloc, command, &input)?;
+    let output = output_for(alloc, command, source)?;
     write_all(out, &output)?;
     Ok(())
 }
 
+// What the command gives for its input.
+fn output_for<S: Source>(
+    alloc: Global,
+    command: Command,
+    source: &mut S,
+) -> Result<Vec<u8>, Refusal>
+    requires { IsWithinRange command }
+    ensures ok { IfOk result (λ output.
+        IsGiven command (S.left source.old) (λ given. given ≡ Ok output.items)) }
+    ensures refused { IfErr result
+        (CauseOf command (S.left source.old) (Rose (S.faults source.old) (S.faults source.new))) }
+    ensures unread { ¬ IsTrue (has_input command) → source.new ≡ source.old }
+    ensures end { OnOk result (ReachesEnd command (S.left source.old) (S.left source.new)) }
+    ensures refused_at_end { IfErr result (λ refusal. IsTrue (tells_of_input (status_of refusal))
+        → ReachesEnd command (S.left source.old) (S.left source.new)) }
+{
+    let input = read_input(alloc, command, source)?;
+    output_of(alloc, command, &input)
+}
+
+// The input of the command: what is left in the source, or nothing where it has none.
+fn read_input<S: Source>(
+    alloc: Global,
+    command: Command,
+    source: &mut S,
+) -> Result<Vec<u8>, Refusal>
+    ensures input { IfOk result (λ bytes. IsInput command (S.left source.old) bytes.items) }
+    ensures fits { IfOk result (λ bytes. vec_len bytes ≤ Limits.INPUT) }
+    ensures refused { IfErr result
+        (CauseOf command (S.left source.old) (Rose (S.faults source.old) (S.faults source.new))) }
+    ensures unread { ¬ IsTrue (has_input command) → source.new ≡ source.old }
+    ensures end { OnOk result (ReachesEnd command (S.left source.old) (S.left source.new)) }
+    ensures refused_at_end { IfErr result (λ refusal. IsTrue (tells_of_input (status_of refusal))
+        → ReachesEnd command (S.left source.old) (S.left source.new)) }
+{
+    if !command.has_input() {
+        return Ok(Vec::new(alloc));
+    }
+    Ok(read_all(alloc, source, Limits::INPUT)?)
+}
+
 // What the command gives for the input.
 fn output_of(alloc: Global, command: Command, input: &[u8]) -> Result<Vec<u8>, Refusal>
-    requires { length input.now ≤ Limits.INPUT }
+    requires range { IsWithinRange command }
+    requires fits { length input.now ≤ Limits.INPUT }
     ensures ok { IfOk result (λ output. Gives command input.now (Ok output.items)) }
     ensures refused { IfErr result (Refuses command input.now) }
 {
     match command {
         Command::Seq => sequential_text(alloc, input),
         Command::Cluster => cluster_text(alloc, input),
+        Command::Make(tasks) => made_text(alloc, tasks),
     }
 }
 
 // What the tasks of a graph text print, run one by one.
 fn sequential_text(alloc: Global, input: &[u8]) -> Result<Vec<u8>, Refusal>
     requires { length input.now ≤ Limits.INPUT }
-    ensures ok { IfOk result (λ output. Prints input.now output.items) }
+    ensures ok { IfOk result (λ output. IsTextFor IsPrinted input.now output.items) }
     ensures refused { IfErr result (Refuses Command.Seq input.now) }
 {
     let program = read_program(alloc, input)?;
@@ -149,10 +196,21 @@ fn sequential_text(alloc: Global, input: &[u8]) -> Result<Vec<u8>, Refusal>
 // The steps in which the tasks of a graph text are clustered.
 fn cluster_text(alloc: Global, input: &[u8]) -> Result<Vec<u8>, Refusal>
     requires { length input.now ≤ Limits.INPUT }
-    ensures ok { IfOk result (λ output. PrintsClusters input.now output.items) }
+    ensures ok { IfOk result (λ output. IsTextFor IsClusterReport input.now output.items) }
     ensures refused { IfErr result (Refuses Command.Cluster input.now) }
 {
     let program = read_program(alloc, input)?;
     let clustering = cluster(alloc, program.graph())?;
     Ok(cluster_report(alloc, &program, &clustering)?)
+}
+
+// The text of the generated graph of so many tasks.
+fn made_text(alloc: Global, tasks: u32) -> Result<Vec<u8>, Refusal>
+    requires least { 1 ≤ tasks }
+    requires most { tasks ≤ Limits.TASKS }
+    ensures ok { IfOk result (λ output. output.items ≡ program_text (layered_program tasks)) }
+    ensures refused { IfErr result (λ refusal. refusal ≡ Refusal.Memory) }
+{
+    let program = make(alloc, tasks)?;
+    Ok(print_program(alloc, &program)?)
 }

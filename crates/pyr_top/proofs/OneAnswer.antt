@@ -1,0 +1,99 @@
+-- The defined answer is one.
+use Rattle.std.proofs.Common.{◌≡◌, ◌≢◌, ◌⊎◌, ◌<◌, ◌≤◌, [], ◌∷◌, map, unwrap_or, inl, inr, ℕ, List, Option, Some, Result, Ok, Err, length, refl, sym, ap, subst, ◌∙◌, arith}
+use Rattle.std.proofs.lemmas.Bool.{cases_lt, cases_order}
+use Rattle.pyr_num.specs.declared.limits.TheConstants.Limits.{INPUT}
+use Rattle.pyr_top.specs.declared.command.Command.{Command}
+use Rattle.pyr_top.specs.declared.command.Command.TheVariants.{Seq, Cluster, Make}
+use Rattle.pyr_top.specs.declared.refusal.Refusal.{Refusal}
+use Rattle.pyr_top.specs.declared.refusal.Refusal.TheVariants.{Usage, Source, Sink, Memory, TooLong, Program}
+use Rattle.pyr_seq.specs.Sequential.{outputs_of, value_of, HasOneWriter}
+use Rattle.pyr_seq.proofs.SequentialLemmas.{values-same}
+use Rattle.pyr_graph.specs.System.{datum_numbers}
+use Rattle.pyr_graph.specs.Faults.{IsSound}
+use Rattle.pyr_graphtext.specs.Program.{ProgramParts, tasks_of}
+use Rattle.pyr_graphtext.specs.Sequential.{IsOrder}
+use Rattle.pyr_graphtext.specs.Answer.{StandsFor}
+use Rattle.pyr_graphtext.proofs.OneAnswer.{one_answer_is_told}
+use Rattle.pyr_top.specs.OutputsText.{outputs_text}
+use Rattle.pyr_top.proofs.ClusterLemmas.{one_cluster_report}
+use Rattle.pyr_top.specs.Answers.{IsPrinted, IsClusterReport, IsTextFor, GivesText, RefusesProgram, Gives, Answers}
+
+-- no two tasks of a sound graph write one datum
+one_writer : (p : ProgramParts) (frame : ℕ) → IsSound p.graph → HasOneWriter (tasks_of p frame)
+one_writer p frame sound a b d is_a is_b writes_a writes_b =
+    elim (cases_order a b) [
+      | inl same ↦ same
+      | inr apart ↦ absurd (sound.written.single.one_writer d (a, b, differ a b apart, (is_a, writes_a), (is_b, writes_b)))
+    ]
+  where
+    differ : (x y : ℕ) → (x < y) ⊎ (y < x) → x ≡ y → ⊥
+    differ x y (inl less) e = omega (arith, less, e)
+    differ x y (inr more) e = omega (arith, more, e)
+
+same_values : (f g : ℕ → List ℕ) → ((d : ℕ) → f d ≡ g d) → (ds : List ℕ) → map f ds ≡ map g ds
+same_values f g each [] = refl
+same_values f g each (d ∷ ds) = λ i. each d i ∷ same_values f g each ds i
+
+-- tasks in two topological orders print the same
+one_run : (p : ProgramParts) (order other : List ℕ) → IsSound p.graph → IsOrder p.graph order → IsOrder p.graph other → (ds : List ℕ) → outputs_of (tasks_of p 0) order ds ≡ outputs_of (tasks_of p 0) other ds
+one_run p order other sound first second ds =
+    same_values (value_of (tasks_of p 0) order) (value_of (tasks_of p 0) other)
+    (λ d. ap (λ (o : Option (List ℕ)). unwrap_or o []) (values-same (tasks_of p 0) order other (one_writer p 0 sound) first second d)) ds
+
+-- a program prints one text
+one_print : (p : ProgramParts) (a b : List ℕ) → IsSound p.graph → IsPrinted p a → IsPrinted p b → a ≡ b
+one_print p a b sound first second =
+    first.text
+    ∙ ap (outputs_text p) (one_run p first.order second.order sound first.ordered second.ordered (datum_numbers p.graph.prints))
+    ∙ sym second.text
+
+-- a text is refused in one way
+one_refusal : (input : List ℕ) (a b : Refusal) → RefusesProgram input a → RefusesProgram input b → a ≡ b
+one_refusal input (Program f) (Program g) first second = ap Program (one_answer_is_told.one_fault input f g first.0 second.0 first.1 second.1)
+one_refusal input (Program f) Usage first second = absurd second
+one_refusal input (Program f) Source first second = absurd second
+one_refusal input (Program f) Sink first second = absurd second
+one_refusal input (Program f) Memory first second = absurd second
+one_refusal input (Program f) TooLong first second = absurd second
+one_refusal input Usage b first second = absurd first
+one_refusal input Source b first second = absurd first
+one_refusal input Sink b first second = absurd first
+one_refusal input Memory b first second = absurd first
+one_refusal input TooLong b first second = absurd first
+
+-- and not where it stands for a program
+stands_or_refuses : (input : List ℕ) (p : ProgramParts) (r : Refusal) → StandsFor input p → RefusesProgram input r → ⊥
+stands_or_refuses input p (Program f) stands refuses = one_answer_is_told.not_both input p f refuses.0 stands refuses.1
+stands_or_refuses input p Usage stands refuses = refuses
+stands_or_refuses input p Source stands refuses = refuses
+stands_or_refuses input p Sink stands refuses = refuses
+stands_or_refuses input p Memory stands refuses = refuses
+stands_or_refuses input p TooLong stands refuses = refuses
+
+-- where a program has one such text, a graph text has one
+one_text_for : (IsText : ProgramParts → List ℕ → Type 0) (input a b : List ℕ) → ((p : ProgramParts) → IsSound p.graph → IsText p a → IsText p b → a ≡ b) → IsTextFor IsText input a → IsTextFor IsText input b → a ≡ b
+one_text_for IsText input a b unique first second =
+    let same : first.program ≡ second.program = one_answer_is_told.one_program input first.program second.program first.stands second.stands in
+    let sound : IsSound second.program.graph = subst IsSound (sym second.stands.program.graph) second.stands.sound in
+    unique second.program sound (subst (λ (p : ProgramParts). IsText p a) same first.text) second.text
+
+-- and one answer is given for it
+one_text_given : (IsText : ProgramParts → List ℕ → Type 0) (input : List ℕ) (given other : Result (List ℕ) Refusal) → ((p : ProgramParts) (a b : List ℕ) → IsSound p.graph → IsText p a → IsText p b → a ≡ b)
+    → GivesText IsText input given → GivesText IsText input other → given ≡ other
+one_text_given IsText input (Ok a) (Ok b) unique first second = ap Ok (one_text_for IsText input a b (λ p. unique p a b) first second)
+one_text_given IsText input (Ok a) (Err r) unique first second = absurd (stands_or_refuses input first.program r first.stands second)
+one_text_given IsText input (Err r) (Ok b) unique first second = absurd (stands_or_refuses input second.program r second.stands first)
+one_text_given IsText input (Err r) (Err q) unique first second = ap Err (one_refusal input r q first second)
+
+one_given : (command : Command) (input : List ℕ) (given other : Result (List ℕ) Refusal) → Gives command input given → Gives command input other → given ≡ other
+one_given Seq input given other first second = one_text_given IsPrinted input given other one_print first second
+one_given Cluster input given other first second = one_text_given IsClusterReport input given other (λ p a b sound. one_cluster_report p a b) first second
+one_given (Make tasks) input given other first second = first ∙ sym second
+
+-- a command has one defined answer to an input
+pub one_answer : (command : Command) (input : List ℕ) (given other : Result (List ℕ) Refusal) → Answers command input given → Answers command input other → given ≡ other
+one_answer command input given other first second =
+    elim (cases_lt INPUT (length input)) [
+      | inl over ↦ first.above over ∙ sym (second.above over)
+      | inr fits ↦ one_given command input given other (first.within fits) (second.within fits)
+    ]

@@ -1,0 +1,42 @@
+-- Words ask for one command.
+use Rattle.std.proofs.Common.{◌≡◌, ◌<◌, ◌^◌, ℕ, List, [], ◌∷◌, Option, None, unwrap_or, if◌then◌else◌, sym, ap, ◌∙◌, arith}
+use Rattle.std.specs.Prelude.{nat_eq, decimal}
+use Rattle.pyr_lex.specs.Number.{number_of}
+use Rattle.pyr_lex.proofs.Numbers.{number_of-decimal}
+use Rattle.pyr_top.specs.declared.command.Command.{Command}
+use Rattle.pyr_top.specs.declared.command.Command.TheVariants.{Seq, Cluster, Make}
+use Rattle.pyr_top.specs.Commands.{Spells}
+
+-- the first byte of words, and the number that the second one writes
+abbrev first_byte : List (List ℕ) → ℕ
+first_byte [] = 0
+first_byte ([] ∷ words) = 0
+first_byte ((byte ∷ bytes) ∷ words) = byte
+
+abbrev second_number : List (List ℕ) → Option ℕ
+second_number [] = None
+second_number (word ∷ []) = None
+second_number (word ∷ text ∷ words) = number_of text
+
+-- the command that these tell
+abbrev told_by : ℕ → Option ℕ → Command
+told_by byte number =
+    if nat_eq byte 115 then Seq
+    else if nat_eq byte 99 then Cluster
+    else Make (unwrap_or number 0)
+
+abbrev told_words : List (List ℕ) → Command
+told_words words = told_by (first_byte words) (second_number words)
+
+number_told : (n : ℕ) → n < 2 ^ 64 → unwrap_or (number_of (decimal n)) 0 ≡ n
+number_told n fits = ap (λ (o : Option ℕ). unwrap_or o 0) (number_of-decimal n fits)
+
+-- the words of a command tell it
+told : (words : List (List ℕ)) (command : Command) → Spells words command → told_words words ≡ command
+told words Seq spelled = ap told_words spelled.text
+told words Cluster spelled = ap told_words spelled.text
+told words (Make tasks) spelled =
+    ap told_words spelled.text ∙ ap Make (number_told tasks (let most = spelled.range.1 in omega arith))
+
+pub one_command : (words : List (List ℕ)) (command other : Command) → Spells words command → Spells words other → command ≡ other
+one_command words command other first second = sym (told words command first) ∙ told words other second

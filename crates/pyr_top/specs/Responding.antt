@@ -1,0 +1,29 @@
+-- What the parts of a call give to one another, for private contracts alone.
+use Rattle.std.specs.Prelude.{◌≡◌, ◌≢◌, ⊤, ◌≤◌, List, ℕ, Option, Err, IfSome, IsTrue, length}
+use Rattle.std.specs.Io.KnownBytes.{IsAtEnd}
+use Rattle.pyr_num.specs.declared.limits.TheConstants.Limits.{INPUT}
+use Rattle.pyr_graphtext.specs.declared.program_fault.ProgramFault.TheVariants as faults
+use Rattle.pyr_top.specs.declared.command.Command.{Command}
+use Rattle.pyr_top.specs.declared.refusal.Refusal.{Refusal}
+use Rattle.pyr_top.specs.declared.refusal.Refusal.TheVariants.{Usage, Source, Sink, Memory, TooLong, Program}
+use Rattle.pyr_top.specs.Commands.{has_input, input_of}
+use Rattle.pyr_top.specs.Answers.{IsGiven}
+
+-- these bytes are the input of the command, where that is told
+abbrev pub IsInput : Command → Option (List ℕ) → List ℕ → Type 0
+IsInput command left bytes = IfSome (input_of command left) (λ input. input ≡ bytes)
+
+-- the cause why a command gives no output, where `source` says that the count of faults rose there
+abbrev pub CauseOf : Command → Option (List ℕ) → Type 0 → Refusal → Type 0
+CauseOf command left source Usage = ⊥
+CauseOf command left source Source = IsTrue (has_input command) × source
+CauseOf command left source Sink = ⊥
+CauseOf command left source Memory = ⊤
+CauseOf command left source TooLong = IsGiven command left (λ given. given ≡ Err TooLong)
+CauseOf command left source (Program fault) =
+    (fault ≢ faults.Memory) × IsGiven command left (λ given. given ≡ Err (Program fault))
+
+-- where the command has an input within the limit, it was read to its end
+abbrev pub ReachesEnd : Command → Option (List ℕ) → Option (List ℕ) → Type 0
+ReachesEnd command old new =
+    IsTrue (has_input command) → IfSome old (λ input. length input ≤ INPUT → IsAtEnd new)
