@@ -1,0 +1,51 @@
+use Rattle.std.proofs.Common.{◌≡◌, ℕ, ◌+◌, set, ap, add-one, arith, ◌∙◌, length, get_or}
+use Rattle.std.proofs.lemmas.Grind.{get_or_default_zero}
+use Rattle.pyr_graph.specs.System.{task_numbers}
+use Rattle.pyr_graph.specs.Clusters.{cluster_numbers}
+use Rattle.pyr_merge.specs.declared.weighed.Weighed.{Weighed}
+use Rattle.pyr_merge.proofs.RowLemmas.{row-inside, row-tasks, written}
+use Rattle.pyr_merge.proofs.StepLemmas.{next-inside, IsDealing-step}
+use Rattle.pyr_merge.proofs.merging.merge.Goals as goal
+
+pub bounds-clusters-next : goal.bounds-clusters-next
+bounds-clusters-next c =
+    next-inside c.as_slice-clusters.result.now c.deref-next-items.result.now c.in_ok-order.order.items c.loop-next.next-index (record { load = record { 0 = 0 }; cluster = 0 })
+    c.deref-next-items.ensures.value c.loop-next-test.true c.in_ok-order.ensures.order.numbers
+
+pub offset_bounds-clusters-next : goal.offset_bounds-clusters-next
+offset_bounds-clusters-next c =
+    let less = next-inside c.as_slice-clusters.result.now c.deref-next-items.result.now c.in_ok-order.order.items c.loop-next.next-index (record { load = record { 0 = 0 }; cluster = 0 })
+    c.deref-next-items.ensures.value c.loop-next-test.true c.in_ok-order.ensures.order.numbers in
+    omega (arith, less)
+
+pub put_on-requires : goal.put_on-requires
+put_on-requires c =
+    let d : Weighed = record { load = record { 0 = 0 }; cluster = 0 } in
+    let clusters = c.args.clustering.now.clusters in
+    let next = (get_or c.deref-next-items.result.now c.loop-next.next-index d).cluster in
+    let less = next-inside clusters c.deref-next-items.result.now c.in_ok-order.order.items c.loop-next.next-index d
+    c.deref-next-items.ensures.value c.loop-next-test.true (rw c.as_slice-clusters.ensures at c.in_ok-order.ensures.order.numbers) in
+    rw (c.as_slice-tasks.ensures, c.deref_mut.ensures.value, c.loop-next.invariant.full)
+    (row-inside c.args.graph.now clusters c.requires.partition next c.index-clusters-next.result less (rw c.as_slice-clusters.ensures at c.index-clusters-next.is))
+
+pub loop-next-preserved : goal.loop-next-preserved
+loop-next-preserved c =
+    let d : Weighed = record { load = record { 0 = 0 }; cluster = 0 } in
+    let clusters = c.args.clustering.now.clusters in
+    let order = c.deref-next-items.result.now in
+    let next = (get_or order c.loop-next.next-index d).cluster in
+    let less = next-inside clusters order c.in_ok-order.order.items c.loop-next.next-index d
+    c.deref-next-items.ensures.value c.loop-next-test.true (rw c.as_slice-clusters.ensures at c.in_ok-order.ensures.order.numbers) in
+    let row = row-tasks clusters next c.index-clusters-next.result less (rw c.as_slice-clusters.ensures at c.index-clusters-next.is) in
+    let full : length c.put_on.new.of ≡ length c.loop-next.of.items = c.put_on.auto.of ∙ ap length c.deref_mut.ensures.value in
+    let whole : length c.put_on.new.of ≡ c.loop-next.of.len = omega (arith, c.put_on.auto.of, c.deref_mut.ensures.len) in
+    let least = rw c.deref.ensures.value at c.least_loaded-processor.ensures in
+    let at_p = c.index_mut.ensures.value ∙ get_or_default_zero c.loop-next.loads.items c.least_loaded-processor.result c.index_mut.result.now least.inside in
+    rw (written c.loop-next.of.len c.put_on.new.of c.loop-next.of.items whole, add-one)
+    (IsDealing-step c.args.graph.now (cluster_numbers clusters) c.args.processors order c.loop-next.next-index d c.requires.partition
+    (rw (← c.deref-next-items.ensures.value, c.as_slice-clusters.ensures) at c.in_ok-order.ensures.order)
+    (rw (← c.deref-next-items.ensures.value, c.as_slice-clusters.ensures) at c.in_ok-order.ensures.loads)
+    c.loop-next-test.true c.least_loaded-processor.result (task_numbers c.index-clusters-next.result) row
+    c.loop-next.loads.items c.loop-next.of.items c.put_on.new.of c.loop-next.invariant least full
+    (rw (c.as_slice-tasks.ensures, c.deref_mut.ensures.value) at c.put_on.ensures)
+    _ (ap (λ (n : ℕ). set c.loop-next.loads.items c.least_loaded-processor.result (n + (get_or order c.loop-next.next-index d).load.0)) at_p))
