@@ -1,0 +1,17 @@
+mod Longest
+pub mod Places
+mod LevelLemmas
+pub mod ReadyLemmas
+pub mod StartLemmas
+pub mod StepLemmas
+pub mod MappedLemmas
+pub mod PlanLemmas
+pub mod UniqueLemmas
+mod SetLemmas
+mod QueueLemmas
+mod TimetableLemmas
+mod WaitLemmas
+mod OfferLemmas
+mod NextLemmas
+mod ReleaseLemmas
+mod BestLemmas

@@ -1,0 +1,42 @@
+use Rattle.std.proofs.Common.{◌≡◌, ◌<◌, ◌-◌, arith, length}
+use Rattle.std.proofs.lemmas.List.{length-map}
+use Rattle.pyr_graph.specs.System.{task_count, task_numbers}
+use Rattle.pyr_rcp.proofs.Places.{number_at}
+use Rattle.pyr_rcp.proofs.LevelLemmas.{IsMappedFrom-later, IsMappedFrom-step, IsMappedFrom-all}
+use Rattle.pyr_rcp.proofs.levels.mapped_blevels.Goals as goal
+
+pub level_of-requires-clause-task_in : goal.level_of-requires-clause-task_in
+level_of-requires-clause-task_in c =
+    let next = c.loop-place.place - 1 in
+    let order = c.topological-order.result.now in
+    let top = c.topological-order.ensures.order in
+    let inside : next < length order = omega arith in
+    rw (← number_at order next inside) (top.tasks next 0 (rw length-map inside))
+
+pub level_of-requires-clause-later : goal.level_of-requires-clause-later
+level_of-requires-clause-later c =
+    let graph = c.args.graph.now in
+    let order = c.topological-order.result.now in
+    let next = c.loop-place.place - 1 in
+    let top = c.topological-order.ensures.order in
+    let inside : next < length order = omega arith in
+    let full : length order ≡ task_count graph = rw length-map at top.full in
+    rw (← number_at order next inside, c.deref.ensures.value)
+    (IsMappedFrom-later graph c.args.placement.now (task_numbers order) c.well_formed-2.ensures.limits top c.loop-place.place next _ (omega arith) (omega (arith, full)) c.loop-place.invariant)
+
+pub loop-place-preserved : goal.loop-place-preserved
+loop-place-preserved c =
+    let graph = c.args.graph.now in
+    let order = c.topological-order.result.now in
+    let next = c.loop-place.place - 1 in
+    let top = c.topological-order.ensures.order in
+    let inside : next < length order = omega arith in
+    let full : length order ≡ task_count graph = rw length-map at top.full in
+    let level = rw (← number_at order next inside) at c.level_of.ensures in
+    rw (← number_at order next inside)
+    (IsMappedFrom-step graph c.args.placement.now (task_numbers order) c.well_formed-2.ensures.limits top c.loop-place.place next _ _ (omega arith) (omega (arith, full)) (top.tasks next 0 (rw length-map inside)) level c.loop-place.invariant)
+
+pub returns : goal.returns
+returns c =
+    let zero : c.loop-place.place ≡ 0 = omega arith in
+    IsMappedFrom-all _ _ _ c.well_formed-2.ensures.limits c.topological-order.ensures.order _ (rw zero at c.loop-place.invariant)
