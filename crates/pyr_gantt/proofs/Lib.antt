@@ -1,0 +1,4 @@
+pub mod NumberLemmas
+pub mod ColumnLemmas
+pub mod DrawnLemmas
+pub mod TimeLemmas

@@ -1,0 +1,2 @@
+pub mod Gantt
+pub mod Bars
