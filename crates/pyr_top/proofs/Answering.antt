@@ -5,7 +5,7 @@ use Rattle.std.specs.Io.KnownBytes.{Appends, Consumes, IsAtEnd}
 use Rattle.pyr_port.specs.Taking.{Loses}
 use Rattle.pyr_num.specs.declared.limits.TheConstants.Limits.{INPUT}
 use Rattle.pyr_top.specs.declared.command.Command.{Command}
-use Rattle.pyr_top.specs.declared.command.Command.TheVariants.{Seq, Cluster, Make}
+use Rattle.pyr_top.specs.declared.command.Command.TheVariants.{Seq, Cluster, Gantt, Make}
 use Rattle.pyr_top.specs.declared.refusal.Refusal.{Refusal}
 use Rattle.pyr_top.specs.declared.refusal.Refusal.TheVariants.{Usage, Source, Sink, Memory, TooLong, Program}
 use Rattle.pyr_top.specs.declared.status.Status as status

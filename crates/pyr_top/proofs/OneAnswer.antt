@@ -3,7 +3,7 @@ use Rattle.std.proofs.Common.{◌≡◌, ◌≢◌, ◌⊎◌, ◌<◌, ◌≤�
 use Rattle.std.proofs.lemmas.Bool.{cases_lt, cases_order}
 use Rattle.pyr_num.specs.declared.limits.TheConstants.Limits.{INPUT}
 use Rattle.pyr_top.specs.declared.command.Command.{Command}
-use Rattle.pyr_top.specs.declared.command.Command.TheVariants.{Seq, Cluster, Make}
+use Rattle.pyr_top.specs.declared.command.Command.TheVariants.{Seq, Cluster, Gantt, Make}
 use Rattle.pyr_top.specs.declared.refusal.Refusal.{Refusal}
 use Rattle.pyr_top.specs.declared.refusal.Refusal.TheVariants.{Usage, Source, Sink, Memory, TooLong, Program}
 use Rattle.pyr_seq.specs.Sequential.{outputs_of, value_of, HasOneWriter}
@@ -16,7 +16,8 @@ use Rattle.pyr_graphtext.specs.Answer.{StandsFor}
 use Rattle.pyr_graphtext.proofs.OneAnswer.{one_answer_is_told}
 use Rattle.pyr_top.specs.OutputsText.{outputs_text}
 use Rattle.pyr_top.proofs.ClusterLemmas.{one_cluster_report}
-use Rattle.pyr_top.specs.Answers.{IsPrinted, IsClusterReport, IsTextFor, GivesText, RefusesProgram, Gives, Answers}
+use Rattle.pyr_top.proofs.GanttLemmas.{one_gantt_report}
+use Rattle.pyr_top.specs.Answers.{IsPrinted, IsClusterReport, IsGanttReport, IsTextFor, GivesText, RefusesProgram, Gives, Answers}
 
 -- no two tasks of a sound graph write one datum
 one_writer : (p : ProgramParts) (frame : ℕ) → IsSound p.graph → HasOneWriter (tasks_of p frame)
@@ -88,6 +89,7 @@ one_text_given IsText input (Err r) (Err q) unique first second = ap Err (one_re
 one_given : (command : Command) (input : List ℕ) (given other : Result (List ℕ) Refusal) → Gives command input given → Gives command input other → given ≡ other
 one_given Seq input given other first second = one_text_given IsPrinted input given other one_print first second
 one_given Cluster input given other first second = one_text_given IsClusterReport input given other (λ p a b sound. one_cluster_report p a b) first second
+one_given (Gantt processors) input given other first second = one_text_given (IsGanttReport processors) input given other (λ p a b sound. one_gantt_report processors p a b) first second
 one_given (Make tasks) input given other first second = first ∙ sym second
 
 -- a command has one defined answer to an input

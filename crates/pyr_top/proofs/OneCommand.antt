@@ -4,7 +4,7 @@ use Rattle.std.specs.Prelude.{nat_eq, decimal}
 use Rattle.pyr_lex.specs.Number.{number_of}
 use Rattle.pyr_lex.proofs.Numbers.{number_of-decimal}
 use Rattle.pyr_top.specs.declared.command.Command.{Command}
-use Rattle.pyr_top.specs.declared.command.Command.TheVariants.{Seq, Cluster, Make}
+use Rattle.pyr_top.specs.declared.command.Command.TheVariants.{Seq, Cluster, Gantt, Make}
 use Rattle.pyr_top.specs.Commands.{Spells}
 
 -- the first byte of words, and the number that the second one writes
@@ -23,6 +23,7 @@ abbrev told_by : ℕ → Option ℕ → Command
 told_by byte number =
     if nat_eq byte 115 then Seq
     else if nat_eq byte 99 then Cluster
+    else if nat_eq byte 103 then Gantt (unwrap_or number 0)
     else Make (unwrap_or number 0)
 
 abbrev told_words : List (List ℕ) → Command
@@ -35,6 +36,8 @@ number_told n fits = ap (λ (o : Option ℕ). unwrap_or o 0) (number_of-decimal 
 told : (words : List (List ℕ)) (command : Command) → Spells words command → told_words words ≡ command
 told words Seq spelled = ap told_words spelled.text
 told words Cluster spelled = ap told_words spelled.text
+told words (Gantt processors) spelled =
+    ap told_words spelled.text ∙ ap Gantt (number_told processors (let most = spelled.range.1 in omega arith))
 told words (Make tasks) spelled =
     ap told_words spelled.text ∙ ap Make (number_told tasks (let most = spelled.range.1 in omega arith))
 

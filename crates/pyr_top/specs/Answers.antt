@@ -4,7 +4,7 @@ use Rattle.std.specs.Io.KnownBytes.{Appends, IsAtEnd}
 use Rattle.pyr_num.specs.declared.limits.TheConstants.Limits.{INPUT}
 use Rattle.pyr_port.specs.Giving.{AppendsPrefix}
 use Rattle.pyr_top.specs.declared.command.Command.{Command}
-use Rattle.pyr_top.specs.declared.command.Command.TheVariants.{Seq, Cluster, Make}
+use Rattle.pyr_top.specs.declared.command.Command.TheVariants.{Seq, Cluster, Gantt, Make}
 use Rattle.pyr_top.specs.declared.refusal.Refusal.{Refusal}
 use Rattle.pyr_top.specs.declared.refusal.Refusal.TheVariants.{Usage, Source, Sink, Memory, TooLong, Program}
 use Rattle.pyr_top.specs.declared.status.Status as status
@@ -14,8 +14,14 @@ use Rattle.pyr_top.specs.Refusals.{status_of, line_of, too_long, IsToldAs}
 use Rattle.pyr_top.specs.OutputsText.{outputs_text}
 use Rattle.pyr_seq.specs.Sequential.{outputs_of}
 use Rattle.pyr_graph.specs.System.{datum_numbers}
+use Rattle.pyr_graph.specs.Clusters.{cluster_numbers}
 use Rattle.pyr_graph.specs.declared.clustering.Clustering.{Clustering}
+use Rattle.pyr_graph.specs.declared.placement.Placement.{Placement}
+use Rattle.pyr_graph.specs.declared.plan.Plan.{Plan}
 use Rattle.pyr_dsc.specs.Run.{IsRun}
+use Rattle.pyr_merge.specs.Merge.{IsMerged}
+use Rattle.pyr_rcp.specs.Order.{IsOrdered}
+use Rattle.pyr_gantt.specs.Gantt.{gantt_report}
 use Rattle.pyr_make.specs.Layered.{layered_program}
 use Rattle.pyr_top.specs.ClusterReport.{cluster_report}
 use Rattle.pyr_graphtext.specs.declared.program_fault.ProgramFault.TheVariants as faults
@@ -37,6 +43,16 @@ pub record IsClusterReport (program : ProgramParts) (output : List ℕ) : Type 0
   pub run : IsRun program.graph clustering
   pub text : output ≡ cluster_report program clustering
 
+-- the report on the plan of a program for so many processors
+pub record IsGanttReport (processors : ℕ) (program : ProgramParts) (output : List ℕ) : Type 0 where
+  pub clustering : Clustering
+  pub run : IsRun program.graph clustering
+  pub placement : Placement
+  pub merged : IsMerged program.graph (cluster_numbers clustering.clusters) processors placement
+  pub plan : Plan
+  pub ordered : IsOrdered program.graph placement plan
+  pub text : output ≡ gantt_report program placement plan
+
 -- the input stands for a program, and the output is such a text of it
 pub record IsTextFor (IsText : ProgramParts → List ℕ → Type 0) (input output : List ℕ) : Type 0 where
   pub program : ProgramParts
@@ -57,6 +73,7 @@ GivesText IsText input (Err refusal) = RefusesProgram input refusal
 abbrev pub Gives : Command → List ℕ → Result (List ℕ) Refusal → Type 0
 Gives Seq input given = GivesText IsPrinted input given
 Gives Cluster input given = GivesText IsClusterReport input given
+Gives (Gantt processors) input given = GivesText (IsGanttReport processors) input given
 Gives (Make tasks) input given = given ≡ Ok (program_text (layered_program tasks))
 
 -- a command refuses the input so, or memory ran out

@@ -13,6 +13,9 @@ pub enum Command {
     Seq,
     /// Clusters the tasks of a graph text, and tells the steps.
     Cluster,
+    /// Plans the tasks of a graph text for this many processors, from 1 to `Limits::PROCESSORS`, and
+    /// tells when each runs.
+    Gantt(u32),
     /// Writes the text of a generated graph of this many tasks, from 1 to `Limits::TASKS`.
     Make(u32),
 }
@@ -23,7 +26,7 @@ impl Command {
         ensures { result ≡ has_input self }
     {
         match self {
-            Command::Seq | Command::Cluster => true,
+            Command::Seq | Command::Cluster | Command::Gantt(_) => true,
             Command::Make(_) => false,
         }
     }
@@ -60,6 +63,11 @@ fn numbered_command(word: &str, text: &str) -> Option<Command>
     ensures none { IfNone result (NoCommand (word.now ∷ text.now ∷ [])) }
 {
     match word {
+        "gantt" => Some(Command::Gantt(number_in(
+            text,
+            Limits::LEAST_PROCESSORS,
+            Limits::PROCESSORS,
+        )?)),
         "make" => Some(Command::Make(number_in(text, 1, Limits::TASKS)?)),
         _ => None,
     }

@@ -59,6 +59,12 @@ task c 12\nreads x\nwrites z\nput z[0] = (x[0] + 2)\nend\n\
 task e 4\nreads m\nwrites y\nput y[0] = (m[0] + 1)\nend\n\
 task d 1\nreads y z\nwrites w\nput w[0] = (y[0] + z[0])\nend\nprint w\n";
 
+// Two producers whose data meet in one task.
+const JOINED: &[u8] = b"data x 1 10\ndata y 1 10\ndata z 1 0\n\
+task a 2\nwrites x\nput x[0] = 1\nend\n\
+task b 2\nwrites y\nput y[0] = 2\nend\n\
+task c 1\nreads x y\nwrites z\nput z[0] = (x[0] + y[0])\nend\nprint z\n";
+
 // Texts that are refused, with the status and the line of each.
 const REFUSED: [(&[u8], u8, &[u8]); 17] = [
     (b"", 8, b"no task\n"),
@@ -316,6 +322,53 @@ clusters 4\n",
 }
 
 #[test]
+fn gantt_tells_the_plan(rt: HostRuntime) -> Result<(), Fail> {
+    for (processors, text, report) in [
+        (
+            "2",
+            HEAVY,
+            b"time 14\na 0 0 2\nb 0 2 12\nc 1 3 13\nd 1 13 14\n\
+0 ####################################################........\n\
+1 ............################################################\n"
+                .as_slice(),
+        ),
+        (
+            "1",
+            TWO,
+            b"time 2\na 0 0 1\nb 0 1 2\n\
+0 ############################################################\n",
+        ),
+        (
+            "2",
+            ELIMINATION,
+            b"time 23\nl0 1 0 1\nl1 1 1 2\nl2 1 8 9\nu01 1 2 8\nu02 0 11 17\nu12 0 17 23\n\
+0 ............................################################\n\
+1 ########################....................................\n",
+        ),
+        (
+            "2",
+            FIVE,
+            b"time 16\na 1 0 2\nb 1 2 6\nc 0 3 15\ne 1 6 10\nd 0 15 16\n\
+0 ...........#################################################\n\
+1 ######################################......................\n",
+        ),
+        (
+            "2",
+            JOINED,
+            b"time 13\na 0 0 2\nb 1 0 2\nc 0 12 13\n\
+0 ##########.............................................#####\n\
+1 ##########..................................................\n",
+        ),
+    ] {
+        let (status, out, err) = told(rt.alloc(), &["gantt", processors], text)?;
+        assert_eq!(rt; status, 0);
+        assert_eq!(rt; out.bytes(), report);
+        assert_eq!(rt; err.bytes(), b"".as_slice());
+    }
+    Ok(())
+}
+
+#[test]
 fn make_writes_the_generated_graph(rt: HostRuntime) -> Result<(), Fail> {
     let alloc = rt.alloc();
     let mut call = Call::new(alloc, &["make", "1"], SEVEN.to_vec(alloc)?)?;
@@ -337,7 +390,7 @@ fn make_writes_the_generated_graph(rt: HostRuntime) -> Result<(), Fail> {
 #[test]
 fn each_fault_has_its_line(rt: HostRuntime) -> Result<(), Fail> {
     for (text, code, line) in REFUSED {
-        for words in [["seq"].as_slice(), &["cluster"]] {
+        for words in [["seq"].as_slice(), &["cluster"], &["gantt", "2"]] {
             let (status, out, err) = told(rt.alloc(), words, text)?;
             assert_eq!(rt; status, code);
             assert_eq!(rt; out.bytes(), b"".as_slice());

@@ -6,7 +6,7 @@ ghost use Rattle.pyr_port.specs.Giving.{AppendsPrefix};
 ghost use Rattle.pyr_graphtext.specs.Canonical.{program_text};
 ghost use Rattle.pyr_make.specs.Layered.{layered_program};
 ghost use Rattle.pyr_top.specs.Commands.{texts, has_input, IsWithinRange, NoCommand, ReadsInput};
-ghost use Rattle.pyr_top.specs.Answers.{IsPrinted, IsClusterReport, IsTextFor};
+ghost use Rattle.pyr_top.specs.Answers.{IsPrinted, IsClusterReport, IsGanttReport, IsTextFor};
 ghost use Rattle.pyr_top.specs.Answers.{Gives, Refuses, IsGiven, Delivers, Cause, IsRefused, IsRefusedAs, IsComplete};
 ghost use Rattle.pyr_top.specs.Answers.{IsReadToEnd, tells_of_input, Tells, IsTold};
 ghost use Rattle.pyr_top.specs.Responding.{IsInput, CauseOf, ReachesEnd};
@@ -18,10 +18,13 @@ use crate::messages::fault_line;
 use crate::outputs_text::outputs_text;
 use crate::{Command, Refusal, Status};
 use pyr_dsc::cluster;
+use pyr_gantt::report;
 use pyr_graphtext::{print_program, read_program, sequential};
 use pyr_make::make;
+use pyr_merge::merge;
 use pyr_num::Limits;
 use pyr_port::{Sink, Source, read_all, write_all};
+use pyr_rcp::order;
 use std::alloc::Global;
 
 /// Does what the words ask for: reads the source to its end, writes the output to `out`, and where it
@@ -177,6 +180,7 @@ fn output_of(alloc: Global, command: Command, input: &[u8]) -> Result<Vec<u8>, R
     match command {
         Command::Seq => sequential_text(alloc, input),
         Command::Cluster => cluster_text(alloc, input),
+        Command::Gantt(processors) => gantt_text(alloc, processors, input),
         Command::Make(tasks) => made_text(alloc, tasks),
     }
 }
@@ -202,6 +206,22 @@ fn cluster_text(alloc: Global, input: &[u8]) -> Result<Vec<u8>, Refusal>
     let program = read_program(alloc, input)?;
     let clustering = cluster(alloc, program.graph())?;
     Ok(cluster_report(alloc, &program, &clustering)?)
+}
+
+// When and where the tasks of a graph text run, on so many processors.
+fn gantt_text(alloc: Global, processors: u32, input: &[u8]) -> Result<Vec<u8>, Refusal>
+    requires least { Limits.LEAST_PROCESSORS ≤ processors }
+    requires most { processors ≤ Limits.PROCESSORS }
+    requires fits { length input.now ≤ Limits.INPUT }
+    ensures ok { IfOk result (λ output. IsTextFor (IsGanttReport processors) input.now output.items) }
+    ensures refused { IfErr result (Refuses (Command.Gantt processors) input.now) }
+{
+    let program = read_program(alloc, input)?;
+    let graph = program.graph();
+    let clustering = cluster(alloc, graph)?;
+    let placement = merge(alloc, graph, &clustering, processors)?;
+    let plan = order(alloc, graph, &placement)?;
+    Ok(report(alloc, &program, &placement, &plan)?)
 }
 
 // The text of the generated graph of so many tasks.
