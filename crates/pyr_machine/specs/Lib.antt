@@ -1,0 +1,11 @@
+pub mod Machine
+pub mod Parcels
+pub mod Good
+pub mod Counts
+pub mod Follow
+pub mod Station
+pub mod Values
+pub mod State
+pub mod Local
+pub mod Testing
+pub mod Schedule
