@@ -1,0 +1,4 @@
+pub mod Emission
+pub mod Meaning
+pub mod Marks
+pub mod Checked
