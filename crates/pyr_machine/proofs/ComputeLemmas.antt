@@ -1,7 +1,7 @@
 -- The loops that fill the cells and empty them.
 use Rattle.std.proofs.Common.{◌≡◌, ℕ, zero, suc, ◌+◌, ◌<◌, ◌≤◌, List, [], ◌∷◌, ◌++◌, length, map, take, drop, add-one, get_or, slice_index_or, slice_set, refl, sym, ◌∙◌, ap, arith}
-use Rattle.std.specs.Prelude.{replicate, sum_by, All}
-use Rattle.std.proofs.lemmas.List.{take_more, map-append, length-append, length-map, length-replicate, get_or_default}
+use Rattle.std.specs.Prelude.{replicate, sum_by}
+use Rattle.std.proofs.lemmas.List.{take_more, map-append, length-replicate, get_or_default}
 use Rattle.std.proofs.lemmas.List.Sums.{sum_by-cons, sum_by_push}
 use Rattle.std.proofs.Math.Seq.{drop-cons}
 use Rattle.pyr_num.specs.Cells.{CellLists, word_count, list_at}

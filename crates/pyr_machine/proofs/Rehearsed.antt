@@ -5,9 +5,8 @@ use Rattle.pyr_num.specs.declared.parcel.Parcel.{Parcel}
 use Rattle.pyr_net.specs.Net.{Rules, World}
 use Rattle.pyr_net.specs.Run.{IsRun, end_of, IsEnded, IsOutcome, Reaches}
 use Rattle.pyr_bundle.specs.Parts.{Parts, IsBundle, processor_count}
-use Rattle.pyr_bundle.specs.Values.{IsOrderOf, printed}
 use Rattle.pyr_machine.specs.Machine.{LocalState, tags, tag_rules, start}
-use Rattle.pyr_machine.specs.Parcels.{parcels, state_rules}
+use Rattle.pyr_machine.specs.Parcels.{state_rules}
 use Rattle.pyr_machine.specs.Good.{IsDone, IsGood, AreOutputs}
 use Rattle.pyr_machine.specs.State.{States, state_world, ComesTo, CanFinish}
 use Rattle.pyr_machine.specs.Testing.{AreEmpty, Prints}

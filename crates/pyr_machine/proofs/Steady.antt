@@ -15,7 +15,7 @@ use Rattle.pyr_bundle.specs.Parts.{Parts, processor_count, code_at}
 use Rattle.pyr_bundle.specs.WellFormed.{is_send_of, IsWellFormed}
 use Rattle.pyr_bundle.specs.declared.instr.Instr.{Instr}
 use Rattle.pyr_bundle.specs.declared.instr.Instr.TheVariants.{Recv, Exec, Send}
-use Rattle.pyr_machine.specs.Machine.{LocalState, Kind, machine, instr_at, action_by, worked_by, holds, without, datum_by, stashed}
+use Rattle.pyr_machine.specs.Machine.{LocalState, Kind, machine, instr_at, action_by, worked_by, holds, without, stashed}
 use Rattle.pyr_machine.specs.Counts.{sum_below, sends_to, all_sends}
 use Rattle.pyr_machine.specs.Local.{sent_data, valued_all, traffic, alone_start, IsTagged, IsPeer, IsSteady}
 use Rattle.pyr_machine.proofs.Demand.{sum_below_le, send_instr, take_instr, kept_at}

@@ -1,7 +1,7 @@
 use Rattle.std.proofs.Common.{◌∙◌, sym, ap, map, length}
 use Rattle.pyr_num.specs.Cells.{CellLists}
 use Rattle.pyr_num.specs.declared.ids.DatumId.{DatumId}
-use Rattle.std.proofs.Common.{ℕ, List}
+use Rattle.std.proofs.Common.{List}
 use Rattle.pyr_bundle.specs.declared.bundle_task.BundleTask.{BundleTask}
 use Rattle.pyr_bundle.specs.Parts.{length_of}
 use Rattle.pyr_machine.specs.State.{numbers}

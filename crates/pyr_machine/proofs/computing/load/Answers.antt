@@ -1,4 +1,4 @@
-use Rattle.std.proofs.Common.{get_or, arith}
+use Rattle.std.proofs.Common.{get_or}
 use Rattle.pyr_num.specs.declared.ids.DatumId.{DatumId}
 use Rattle.pyr_machine.proofs.ComputeLemmas.{input_fits, read_words}
 use Rattle.pyr_machine.proofs.computing.load.Goals as goal
