@@ -1,7 +1,9 @@
 -- The tasks of a bundle so far, and those of an order.
 use Rattle.std.proofs.Common.{◌≡◌, ℕ, ◌+◌, ◌<◌, List, [], ◌∷◌, ◌++◌, length, get_or, inl, inr, sym, ap, ◌∙◌, subst, arith}
+use Rattle.std.specs.Prelude.{All}
 use Rattle.std.proofs.lemmas.Bool.{cases_lt}
 use Rattle.std.proofs.lemmas.List.{get_or_append_left, get_or_push, get_or-map, length-map}
+use Rattle.std.proofs.lemmas.List.Elements.{All-push, All-same}
 use Rattle.pyr_num.specs.declared.ids.TaskId.{TaskId}
 use Rattle.pyr_graph.specs.declared.placement.Placement.{Placement}
 use Rattle.pyr_graph.specs.declared.plan.Plan.{Plan}
@@ -12,6 +14,7 @@ use Rattle.pyr_rcp.proofs.PlanLemmas.{IsTopological-from_ordered}
 use Rattle.pyr_bundle.specs.declared.raw_task.RawTask.{RawTask}
 use Rattle.pyr_bundle.specs.Raw.{task_in}
 use Rattle.pyr_emit.specs.Emission.{IsTaskOf}
+use Rattle.pyr_emit.specs.Checked.{IsChecked}
 
 -- one task more
 pub tasks_more : (p : ProgramParts) (old new : List RawTask) (n : ℕ) (task : RawTask) → new ≡ old ++ task ∷ [] → length old ≡ n → ((t : ℕ) → t < n → IsTaskOf p t (task_in old t)) → IsTaskOf p n task
@@ -26,6 +29,10 @@ tasks_more p old new n task is full each last t inside = elim (cases_lt t n) [
   where
     no_task : RawTask
     no_task = record { locals = 0; reads = []; writes = []; code = [] }
+
+pub checked_more : (old new : List RawTask) (task : RawTask) → new ≡ old ++ task ∷ [] → All IsChecked old → IsChecked task → All IsChecked new
+checked_more old new task is all last =
+    All-same IsChecked new (old ++ task ∷ []) is (All-push IsChecked old task all last)
 
 -- an order names tasks of its graph
 pub order_below : (s : System) (placement : Placement) (plan : Plan) → IsOrdered s placement plan → (lent : List TaskId) → lent ≡ plan.order → (g : System) → g ≡ s

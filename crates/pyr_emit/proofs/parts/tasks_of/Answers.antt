@@ -1,10 +1,7 @@
-use Rattle.std.proofs.Common.{◌+◌, List, length, sym, subst, ap, ◌∙◌}
-use Rattle.std.specs.Prelude.{All}
+use Rattle.std.proofs.Common.{◌+◌, List, length, ap, ◌∙◌}
 use Rattle.std.proofs.lemmas.List.{length_push}
-use Rattle.std.proofs.lemmas.List.Elements.{All-push}
 use Rattle.pyr_bundle.specs.declared.raw_task.RawTask.{RawTask}
-use Rattle.pyr_emit.specs.Checked.{IsChecked}
-use Rattle.pyr_emit.proofs.TaskLemmas.{tasks_more}
+use Rattle.pyr_emit.proofs.TaskLemmas.{tasks_more, checked_more}
 use Rattle.pyr_emit.proofs.parts.tasks_of.Goals as goal
 
 pub loop-task-preserved : goal.loop-task-preserved
@@ -15,5 +12,5 @@ loop-task-preserved c =
     record {
       full = ap length is ∙ length_push old task ∙ ap (λ n. n + 1) c.loop-task.invariant.full;
       each = tasks_more c.args.program.now old c.push.new.self.items c.loop-task.task task is c.loop-task.invariant.full c.loop-task.invariant.each c.in_ok-task_of.ensures.task;
-      checked = subst (λ (l : List RawTask). All IsChecked l) (sym is) (All-push IsChecked old task c.loop-task.invariant.checked c.in_ok-task_of.ensures.checked);
+      checked = checked_more old c.push.new.self.items task is c.loop-task.invariant.checked c.in_ok-task_of.ensures.checked;
     }
