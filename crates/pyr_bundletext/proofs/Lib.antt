@@ -9,3 +9,4 @@ pub mod ReadingLemmas
 pub mod WritingLemmas
 pub mod OneAnswer
 pub mod PrintingLemmas
+pub mod SizeLemmas

@@ -1,5 +1,5 @@
 // Writing a bundle: one function for each list.
-ghost use Rattle.std.specs.Prelude.{◌≡◌, ◌++◌, true, map, OnOk, IfOk};
+ghost use Rattle.std.specs.Prelude.{◌≡◌, ◌≤◌, ◌++◌, true, map, length, OnOk, IfOk};
 ghost use Rattle.std.specs.List.{flat_map, AllByRecursion};
 ghost use Rattle.pyr_num.specs.Name.{is_name};
 ghost use Rattle.pyr_bundle.specs.Parts.{raw_of, raw_task_of, raw_instr_of, raw_channel_of};
@@ -10,7 +10,7 @@ ghost use Rattle.pyr_bundletext.specs.Answer.{StandsFor};
 use crate::lines::{put_datum_ids, put_line, put_number};
 use crate::ops::put_ops;
 use pyr_bundle::{Bundle, BundleTask, Capacity, Instr, RawDatum};
-use pyr_num::{DatumId, ProcId, TaskId};
+use pyr_num::{DatumId, Limits, ProcId, TaskId};
 use std::alloc::{AllocError, Global};
 
 pub(crate) fn put_datum(text: &mut Vec<u8>, datum: RawDatum) -> Result<(), AllocError>
@@ -132,13 +132,15 @@ fn put_processors(text: &mut Vec<u8>, bundle: &Bundle) -> Result<(), AllocError>
     Ok(())
 }
 
-/// The text of a bundle, in its one spelling.
-#[tactic(auto, unfolding(crate::specs::Text::text_of))]
+/// The text of a bundle, in its one spelling. Every bundle has a text of at most `Limits::INPUT`
+/// bytes, so `read_bundle` can read it again.
 pub fn print_bundle(alloc: Global, bundle: &Bundle) -> Result<Vec<u8>, AllocError>
     // this very text
     ensures text { IfOk result (λ text. text.items ≡ text_of (raw_of bundle.now)) }
     // `read_bundle` answers these parts and nothing else, by `one_answer_is_told`
     ensures read_again { IfOk result (λ text. StandsFor text.items (raw_of bundle.now)) }
+    // it is within the limit that `read_bundle` requires, for every bundle
+    ensures fits { IfOk result (λ text. length text.items ≤ Limits.INPUT) }
 {
     bundle.is_bundle();
     let mut text = Vec::new(alloc);

@@ -197,6 +197,8 @@ fn prints_what_it_read(rt: HostRuntime) -> Result<(), Fail> {
     let bundle = Bundle::build(alloc, raw).ok().ok_or("no bundle")?;
     let printed = print_bundle(alloc, &bundle)?;
     assert_eq!(rt; printed.as_slice(), text.as_slice());
+    // no test of its length: every bundle's text can be read
+    assert!(rt; read_bundle(alloc, printed.as_slice()).is_ok());
     Ok(())
 }
 
