@@ -1,0 +1,4 @@
+pub mod End
+pub mod InOrder
+pub mod Laws
+pub mod Testing
