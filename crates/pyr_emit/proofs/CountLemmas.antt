@@ -18,10 +18,10 @@ use Rattle.pyr_emit.specs.Emission.{reads_it, writes_it, data_read, data_written
 use Rattle.pyr_emit.proofs.SumLemmas.{total, one, where_true, one-low, one-true, where-true, where-low, total_same, total_none, total_swap, term_low, some_term, total_once, total_at, sum_range, sum_filter, sum_map, sum_pieces}
 
 module _ (s : System) (placement : Placement) (order : List ℕ) where
-  abbrev home : ℕ → ℕ
+  abbrev pub home : ℕ → ℕ
   home t = processor_of placement t
 
-  abbrev task : ℕ → ℕ
+  abbrev pub task : ℕ → ℕ
   task i = slice_index order i
 
   -- what all instructions of a block weigh together
@@ -74,7 +74,7 @@ module _ (s : System) (placement : Placement) (order : List ℕ) where
       ∙ ap (λ k. sum_by f (receives s placement (take i order) (task i)) + k) (sum_by-cons f (Exec (task i)) (sends s placement order (task i)))
 
   -- where receives, or sends, weigh nothing
-  no_receives : (f : RawInstr → ℕ) (earlier : List ℕ) (t : ℕ) → ((d : ℕ) → f (receive_of s placement d) ≡ 0) → sum_by f (receives s placement earlier t) ≡ 0
+  pub no_receives : (f : RawInstr → ℕ) (earlier : List ℕ) (t : ℕ) → ((d : ℕ) → f (receive_of s placement d) ≡ 0) → sum_by f (receives s placement earlier t) ≡ 0
   no_receives f earlier t none =
       receives_weight f earlier t ∙ total_none (datum_count s) _ (λ d l. ap (λ k. where_true (reads_it s t d) (where_true (is_awaited s placement earlier t d) k)) (none d) ∙ nothing (reads_it s t d) (is_awaited s placement earlier t d))
     where
@@ -83,7 +83,7 @@ module _ (s : System) (placement : Placement) (order : List ℕ) where
       nothing true false = refl
       nothing false b = refl
 
-  no_sends : (f : RawInstr → ℕ) (t : ℕ) → ((q d : ℕ) → f (Send q d) ≡ 0) → sum_by f (sends s placement order t) ≡ 0
+  pub no_sends : (f : RawInstr → ℕ) (t : ℕ) → ((q d : ℕ) → f (Send q d) ≡ 0) → sum_by f (sends s placement order t) ≡ 0
   no_sends f t none =
       sends_weight f t ∙ total_none (datum_count s) _ (λ d l. ap (where_true (writes_it s t d)) (total_none placement.processors _ (λ q m. ap (where_true (is_destination s placement order t d q)) (none q d) ∙ nothing (is_destination s placement order t d q))) ∙ nothing (writes_it s t d))
     where
@@ -133,10 +133,10 @@ module _ (s : System) (placement : Placement) (order : List ℕ) where
         (graph.one_writer d (task i) (task_below i i_in, Contains-tested d (writes_of s (task i)) a) ∙ sym (graph.one_writer d (task j) (task_below j j_in, Contains-tested d (writes_of s (task j)) b)))
 
     -- one send at most of a datum to a processor
-    abbrev send_term : ℕ → ℕ → ℕ → ℕ → ℕ → ℕ
+    abbrev pub send_term : ℕ → ℕ → ℕ → ℕ → ℕ → ℕ
     send_term q d t e r = where_true (is_destination s placement order t e r) (one (is_send q d (Send r e)))
 
-    term-tells : (q d t e r : ℕ) → 1 ≤ send_term q d t e r → (r ≡ q) × (e ≡ d)
+    pub term-tells : (q d t e r : ℕ) → 1 ≤ send_term q d t e r → (r ≡ q) × (e ≡ d)
     term-tells q d t e r h =
         let (_dest, some) = where-true (is_destination s placement order t e r) (one (r == q && e == d)) h in
         let (same_q, same_d) = and_parts (r == q) (e == d) (one-true (r == q && e == d) some) in
@@ -151,7 +151,7 @@ module _ (s : System) (placement : Placement) (order : List ℕ) where
     row-tells q d t e h =
         let (r, r_in, some) = some_term placement.processors (send_term q d t e) h in (term-tells q d t e r some).1
 
-    abbrev send_row : ℕ → ℕ → ℕ → ℕ → ℕ
+    abbrev pub send_row : ℕ → ℕ → ℕ → ℕ → ℕ
     send_row q d t e = where_true (writes_it s t e) (total placement.processors (send_term q d t e))
 
     sends_low : (q d t : ℕ) → total (datum_count s) (send_row q d t) ≤ 1
@@ -159,13 +159,13 @@ module _ (s : System) (placement : Placement) (order : List ℕ) where
         total_once (datum_count s) 1 (send_row q d t) (λ e l. where-low (writes_it s t e) (total placement.processors (send_term q d t e)) 1 (row_low q d t e))
         (λ i j l m a b. row-tells q d t i (where-true (writes_it s t i) _ a).1 ∙ sym (row-tells q d t j (where-true (writes_it s t j) _ b).1))
 
-    sends-tell : (q d t : ℕ) → 1 ≤ total (datum_count s) (send_row q d t) → writes_it s t d ≡ true
+    pub sends-tell : (q d t : ℕ) → 1 ≤ total (datum_count s) (send_row q d t) → writes_it s t d ≡ true
     sends-tell q d t h =
         let (e, e_in, some) = some_term (datum_count s) (send_row q d t) h in
         let (writes, row) = where-true (writes_it s t e) (total placement.processors (send_term q d t e)) some in
         subst (λ k. writes_it s t k ≡ true) (row-tells q d t e row) writes
 
-    send_weight : (q d i : ℕ) → block_weight (λ x. one (is_send q d x)) i ≡ total (datum_count s) (send_row q d (task i))
+    pub send_weight : (q d i : ℕ) → block_weight (λ x. one (is_send q d x)) i ≡ total (datum_count s) (send_row q d (task i))
     send_weight q d i =
         block_parts (λ x. one (is_send q d x)) i
         ∙ zeros (no_receives (λ x. one (is_send q d x)) (take i order) (task i) (λ e. refl)) (sends_weight (λ x. one (is_send q d x)) (task i))
@@ -181,7 +181,7 @@ module _ (s : System) (placement : Placement) (order : List ℕ) where
         (λ i j l m a b. written_once d i j l m (sends-tell q d (task i) a) (sends-tell q d (task j) b)))
 
     -- one receive at most of a datum on a processor
-    abbrev receive_term : ℕ → ℕ → ℕ → ℕ
+    abbrev pub receive_term : ℕ → ℕ → ℕ → ℕ
     receive_term d i e = where_true (reads_it s (task i) e) (where_true (is_awaited s placement (take i order) (task i) e) (one (e == d)))
 
     receive-tells : (d i e : ℕ) → 1 ≤ receive_term d i e → (e ≡ d) × (reads_it s (task i) e ≡ true) × (is_awaited s placement (take i order) (task i) e ≡ true)
@@ -195,13 +195,13 @@ module _ (s : System) (placement : Placement) (order : List ℕ) where
         total_once (datum_count s) 1 (receive_term d i) (λ e l. where-low (reads_it s (task i) e) _ 1 (where-low (is_awaited s placement (take i order) (task i) e) _ 1 (one-low (e == d))))
         (λ j k l m a b. (receive-tells d i j a).0 ∙ sym (receive-tells d i k b).0)
 
-    receives-tell : (d i : ℕ) → 1 ≤ total (datum_count s) (receive_term d i) → (reads_it s (task i) d ≡ true) × (is_awaited s placement (take i order) (task i) d ≡ true)
+    pub receives-tell : (d i : ℕ) → 1 ≤ total (datum_count s) (receive_term d i) → (reads_it s (task i) d ≡ true) × (is_awaited s placement (take i order) (task i) d ≡ true)
     receives-tell d i h =
         let (e, e_in, some) = some_term (datum_count s) (receive_term d i) h in
         let (same, reads, awaited) = receive-tells d i e some in
         (subst (λ k. reads_it s (task i) k ≡ true) same reads, subst (λ k. is_awaited s placement (take i order) (task i) k ≡ true) same awaited)
 
-    receive_weight : (d i : ℕ) → block_weight (λ x. one (is_receive d x)) i ≡ total (datum_count s) (receive_term d i)
+    pub receive_weight : (d i : ℕ) → block_weight (λ x. one (is_receive d x)) i ≡ total (datum_count s) (receive_term d i)
     receive_weight d i =
         block_parts (λ x. one (is_receive d x)) i
         ∙ zeros (no_sends (λ x. one (is_receive d x)) (task i) (λ q e. refl)) (receives_weight (λ x. one (is_receive d x)) (take i order) (task i))
@@ -210,7 +210,7 @@ module _ (s : System) (placement : Placement) (order : List ℕ) where
         zeros e f = omega (arith, e, f)
 
     -- a task that comes earlier on a processor is found there
-    found_earlier : (i j d p : ℕ) → i < j → j < length order → home (task i) ≡ p → reads_it s (task i) d ≡ true → is_read_on s placement (take j order) p d ≡ true
+    pub found_earlier : (i j d p : ℕ) → i < j → j < length order → home (task i) ≡ p → reads_it s (task i) d ≡ true → is_read_on s placement (take j order) p d ≡ true
     found_earlier i j d p less inside on reads =
         any_in (λ u. nat_eq (home u) p && reads_it s u d) order j i less (omega (arith, inside)) (and_from (nat_eq (home (task i)) p) (reads_it s (task i) d) (eq-eqb (home (task i)) p on) reads)
       where
@@ -227,13 +227,13 @@ module _ (s : System) (placement : Placement) (order : List ℕ) where
         let isnt = not-true (is_read_on s placement (take j order) (home (task j)) d) none in
         let e : true ≡ false = sym is ∙ isnt in absurd (cc)
 
-    abbrev receive_row : ℕ → ℕ → ℕ → ℕ
+    abbrev pub receive_row : ℕ → ℕ → ℕ → ℕ
     receive_row p d i = where_true (nat_eq (home (task i)) p) (block_weight (λ x. one (is_receive d x)) i)
 
-    abbrev Says : ℕ → ℕ → ℕ → Type 0
+    abbrev pub Says : ℕ → ℕ → ℕ → Type 0
     Says p d i = (home (task i) ≡ p) × (reads_it s (task i) d ≡ true) × (is_awaited s placement (take i order) (task i) d ≡ true)
 
-    row-says : (p d i : ℕ) → 1 ≤ receive_row p d i → (home (task i) ≡ p) × (reads_it s (task i) d ≡ true) × (is_awaited s placement (take i order) (task i) d ≡ true)
+    pub row-says : (p d i : ℕ) → 1 ≤ receive_row p d i → (home (task i) ≡ p) × (reads_it s (task i) d ≡ true) × (is_awaited s placement (take i order) (task i) d ≡ true)
     row-says p d i h =
         let (on, some) = where-true (nat_eq (home (task i)) p) (block_weight (λ x. one (is_receive d x)) i) h in
         let (reads, awaited) = receives-tell d i (subst (λ n. 1 ≤ n) (receive_weight d i) some) in

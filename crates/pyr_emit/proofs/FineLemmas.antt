@@ -18,13 +18,13 @@ use Rattle.pyr_emit.proofs.Ranges.{range_below}
 use Rattle.pyr_emit.proofs.SumLemmas.{one}
 use Rattle.pyr_emit.proofs.CountLemmas.{task_below, home_below}
 
-pieces_all : {X : Type 0} (Q : X → Type 0) (g : ℕ → List X) (xs : List ℕ) → All (λ x. All Q (g x)) xs → All Q (flat_map g xs)
+pub pieces_all : {X : Type 0} (Q : X → Type 0) (g : ℕ → List X) (xs : List ℕ) → All (λ x. All Q (g x)) xs → All Q (flat_map g xs)
 pieces_all Q g [] all = All-nil Q
 pieces_all Q g (x ∷ xs) all =
     All-append Q (g x) (flat_map g xs) (All-head (λ y. All Q (g y)) x xs all) (pieces_all Q g xs (All-tail (λ y. All Q (g y)) x xs all))
 
 -- what passes a test has what each has, and passes
-passing_all : (f : ℕ → Bool) (Q R : ℕ → Type 0) (xs : List ℕ) → All Q xs → ((x : ℕ) → Q x → f x ≡ true → R x) → All R (filter f xs)
+pub passing_all : (f : ℕ → Bool) (Q R : ℕ → Type 0) (xs : List ℕ) → All Q xs → ((x : ℕ) → Q x → f x ≡ true → R x) → All R (filter f xs)
 passing_all f Q R xs all gives = λ k d inside.
     gives (get_or (filter f xs) k d) (All-filter f Q xs all k d inside) (filter_passes f xs k d inside)
 

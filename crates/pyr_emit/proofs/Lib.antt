@@ -4,11 +4,11 @@ mod MarkLemmas
 mod BlockLemmas
 pub mod SumLemmas
 pub mod CountLemmas
-mod FineLemmas
+pub mod FineLemmas
 mod SizeLemmas
 mod LawLemmas
 mod TaskLemmas
-mod Whole
+pub mod Whole
 pub mod MeaningLemmas
 pub mod EmittedLemmas
 mod Rows

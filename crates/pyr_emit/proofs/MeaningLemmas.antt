@@ -49,13 +49,13 @@ module _ (p : ProgramParts) (placement : Placement) (plan : Plan) (b : Parts) (p
   none_at : (t : ℕ) → task_count s ≤ t → task_at b t ≡ no_task
   none_at t past = get_or_past b.tasks t no_task (omega (arith, count, past))
 
-  same_reads : (t : ℕ) → formed.reads_of b t ≡ reads_of s t
+  pub same_reads : (t : ℕ) → formed.reads_of b t ≡ reads_of s t
   same_reads t = elim (cases_lt t (task_count s)) [
     | inl inside ↦ (task_is t inside).reads
     | inr past ↦ ap (λ (task : BundleTask). map (λ (d : DatumId). d.0) task.reads) (none_at t past) ∙ sym (ap (λ (task : TaskParts). map (λ (d : DatumId). d.0) task.reads) (get_or_past s.tasks t (record { cost = 0; reads = []; writes = [] }) past))
   ]
 
-  same_writes : (t : ℕ) → formed.writes_of b t ≡ writes_of s t
+  pub same_writes : (t : ℕ) → formed.writes_of b t ≡ writes_of s t
   same_writes t = elim (cases_lt t (task_count s)) [
     | inl inside ↦ (task_is t inside).writes
     | inr past ↦ ap (λ (task : BundleTask). map (λ (d : DatumId). d.0) task.writes) (none_at t past) ∙ sym (ap (λ (task : TaskParts). map (λ (d : DatumId). d.0) task.writes) (get_or_past s.tasks t (record { cost = 0; reads = []; writes = [] }) past))

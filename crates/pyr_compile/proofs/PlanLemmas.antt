@@ -1,0 +1,164 @@
+-- The run of a plan is complete.
+use Rattle.std.proofs.Common.{◌≡◌, ℕ, ◌+◌, ◌<◌, ◌≤◌, ◌==◌, ◌||◌, Bool, true, false, cond, List, [], ◌∷◌, length, map, All, inl, inr, refl, sym, ap, ◌∙◌, subst, arith}
+use Rattle.std.specs.Prelude.{nat_eq, slice_index}
+use Rattle.std.specs.List.{list_any}
+use Rattle.std.proofs.lemmas.Bool.{cases_lt, cases_eq, eq-eqb, ne_eqb}
+use Rattle.std.proofs.lemmas.List.{get_or_past}
+use Rattle.pyr_num.specs.declared.ids.DatumId.{DatumId}
+use Rattle.pyr_num.specs.declared.ids.ProcId.{ProcId}
+use Rattle.pyr_seq.specs.Walk.{IsTopological}
+use Rattle.pyr_graph.specs.declared.placement.Placement.{Placement}
+use Rattle.pyr_graph.specs.declared.plan.Plan.{Plan}
+use Rattle.pyr_graph.specs.System.{System, task_count, task_numbers, IsEdge}
+use Rattle.pyr_graph.specs.WholeGraph.{IsGraph}
+use Rattle.pyr_graph.specs.declared.clustering.Clustering.{Clustering}
+use Rattle.pyr_graph.specs.Clusters.{cluster_numbers}
+use Rattle.pyr_dsc.specs.Run.{IsRun}
+use Rattle.pyr_merge.specs.Merge.{IsMerged}
+use Rattle.pyr_graphtext.specs.Program.{ProgramParts, IsProgram}
+use Rattle.pyr_rcp.specs.Order.{IsPlaced, IsOrdered, processor_of}
+use Rattle.pyr_rcp.proofs.PlanLemmas.{IsTopological-from_ordered}
+use Rattle.pyr_bundle.specs.Parts.{Parts, IsBundle, raw_of, processor_count, code_at, task_at, instr_of}
+use Rattle.pyr_machine.specs.Machine.{tags, start}
+use Rattle.pyr_machine.specs.Schedule.{tally, KeepsTags, IsSchedule, UsesAll, at_start}
+use Rattle.pyr_bundle.proofs.WellFormedLemmas.{well_formed}
+use Rattle.pyr_machine.specs.Counts.{step_count}
+use Rattle.pyr_machine.specs.Good.{IsGood}
+use Rattle.pyr_machine.proofs.Schedules.{completes}
+use Rattle.pyr_machine.proofs.Bounded.{run_le, start_left}
+use Rattle.pyr_machine.proofs.Exact.{complete_steps}
+use Rattle.pyr_emit.specs.Emission.{IsEmission, reads_it, writes_it, code_on}
+use Rattle.pyr_emit.proofs.CountLemmas.{home_below, task_below}
+use Rattle.pyr_emit.proofs.EmittedLemmas.{processors_are, code_is}
+use Rattle.pyr_emit.proofs.MeaningLemmas.{same_reads, same_writes}
+use Rattle.pyr_compile.specs.PlanRun.{plan_schedule, PlanCompletes, RunsByItsPlan, PlansComplete}
+use Rattle.pyr_compile.proofs.Events.{Event, project, scheduled, all_used}
+use Rattle.pyr_compile.proofs.Blocks.{events_below, project_all, no_code, turns_are}
+use Rattle.pyr_compile.proofs.Ready.{all_ready}
+use Rattle.pyr_compile.proofs.Matched.{one_sender, matched}
+use Rattle.pyr_compile.proofs.Rooms.{holds_all}
+
+-- typed data among these, and their numbers
+any_number : (d : ℕ) (ds : List DatumId) → list_any (λ (e : DatumId). e.0 == d) ds ≡ list_any (nat_eq d) (map (λ (e : DatumId). e.0) ds)
+any_number d [] = refl
+any_number d (e ∷ ds) = ap (λ c. c || list_any (λ (f : DatumId). f.0 == d) ds) (turned e.0 d) ∙ ap (λ c. nat_eq d e.0 || c) (any_number d ds)
+  where
+    turned : (m n : ℕ) → (m == n) ≡ nat_eq n m
+    turned m n = elim (cases_eq m n) [
+      | inl same ↦ eq-eqb m n same ∙ sym (eq-eqb n m (sym same))
+      | inr apart ↦ ne_eqb m n apart ∙ sym (ne_eqb n m (λ e. apart (sym e)))
+    ]
+
+some_number : (d : ℕ) (ds : List DatumId) → 0 < tally (λ (e : DatumId). e.0 == d) ds → list_any (λ (e : DatumId). e.0 == d) ds ≡ true
+some_number d [] some = absurd (omega (arith, some))
+some_number d (e ∷ ds) some = at (e.0 == d) some (some_number d ds)
+  where
+    at : (c : Bool) → 0 < cond c 1 0 + tally (λ (f : DatumId). f.0 == d) ds → (0 < tally (λ (f : DatumId). f.0 == d) ds → list_any (λ (f : DatumId). f.0 == d) ds ≡ true) → (c || list_any (λ (f : DatumId). f.0 == d) ds) ≡ true
+    at true h ih = refl
+    at false h ih = ih (omega (arith, h))
+
+number_some : (d : ℕ) (ds : List DatumId) → list_any (λ (e : DatumId). e.0 == d) ds ≡ true → 0 < tally (λ (e : DatumId). e.0 == d) ds
+number_some d [] e = absurd (let no' : false ≡ true = e in cc)
+number_some d (f ∷ ds) e = at (f.0 == d) e (number_some d ds)
+  where
+    at : (c : Bool) → (c || list_any (λ (g : DatumId). g.0 == d) ds) ≡ true → (list_any (λ (g : DatumId). g.0 == d) ds ≡ true → 0 < tally (λ (g : DatumId). g.0 == d) ds) → 0 < cond c 1 0 + tally (λ (g : DatumId). g.0 == d) ds
+    at true h ih = omega arith
+    at false h ih = let i = ih h in omega (arith, i)
+
+-- in the tag machine a parcel is its datum
+pub keeps_tags : (b : Parts) → KeepsTags (tags b) b
+keeps_tags b = record {
+  pick = λ d xs held. refl;
+  made = λ t d xs writes. number_some d (task_at b t).writes writes;
+}
+
+module _ (p : ProgramParts) (placement : Placement) (plan : Plan) (b : Parts) (program : IsProgram p) (graph : IsGraph p.graph) (placed : IsPlaced p.graph placement)
+    (ordered : IsOrdered p.graph placement plan) (is : IsEmission p placement plan (raw_of b)) where
+  abbrev s : System
+  s = p.graph
+
+  abbrev order : List ℕ
+  order = task_numbers plan.order
+
+  top : IsTopological (task_count s) (IsEdge s) order
+  top = IsTopological-from_ordered s placement plan ordered
+
+  count : processor_count b ≡ placement.processors
+  count = processors_are p placement plan b is
+
+  codes_are : (q : ℕ) → code_at b q ≡ map instr_of (code_on s placement order q)
+  codes_are q = elim (cases_lt q placement.processors) [
+    | inl inside ↦ code_is p placement plan b is q inside
+    | inr past ↦ (
+        get_or_past b.code q [] (omega (arith, count, past))
+        ∙ sym (ap (map instr_of) (no_code s placement order q (λ i i_in same. far i i_in q past same))))
+  ]
+    where
+      far : (i : ℕ) → i < length order → (k : ℕ) → placement.processors ≤ k → processor_of placement (slice_index order i) ≡ k → ⊥
+      far i i_in k past same =
+          let l = home_below s placement order graph placed top (slice_index order i) (task_below s placement order graph placed top i i_in) in omega (arith, l, past, same)
+
+  reads_same : (t d : ℕ) → 0 < tally (λ (e : DatumId). e.0 == d) (task_at b t).reads → reads_it s t d ≡ true
+  reads_same t d some =
+      sym (any_number d (task_at b t).reads ∙ ap (λ (xs : List ℕ). list_any (nat_eq d) xs) (same_reads p placement plan b program is t)) ∙ some_number d (task_at b t).reads some
+
+  writes_same : (t d : ℕ) → list_any (λ (e : DatumId). e.0 == d) (task_at b t).writes ≡ writes_it s t d
+  writes_same t d =
+      any_number d (task_at b t).writes ∙ ap (λ (xs : List ℕ). list_any (nat_eq d) xs) (same_writes p placement plan b program is t)
+
+  abbrev events : List Event
+  events = events_below s placement order (length order)
+
+  code_events : (q : ℕ) → code_at b q ≡ project q events
+  code_events q = codes_are q ∙ sym (project_all s placement order q)
+
+  is_schedule : IsSchedule b at_start (plan_schedule s placement order)
+  is_schedule =
+      subst (IsSchedule b at_start) (turns_are s placement order)
+      (scheduled b [] events at_start code_events (λ q. refl) (all_ready s placement order graph placed top b count reads_same writes_same))
+
+  uses_all : UsesAll b (plan_schedule s placement order)
+  uses_all =
+      subst (UsesAll b) (turns_are s placement order)
+      (λ q. all_used b [] events at_start (λ r. refl) q ∙ ap length (sym (code_events q)))
+
+  pub plan_completes : PlanCompletes p placement plan b
+  plan_completes =
+      completes (tags b) b (plan_schedule s placement order) (keeps_tags b)
+      (one_sender s placement order graph placed top b count codes_are)
+      (holds_all s placement order graph placed top b count codes_are is.code is.channels)
+      (matched s placement order graph placed top b count codes_are)
+      is_schedule uses_all
+
+pub plans_complete : PlansComplete
+plans_complete p placement plan b program graph placed ordered is = plan_completes p placement plan b program graph placed ordered is
+
+pub placed_by : (g : System) (placement : Placement) (processors : ℕ) → placement.processors ≡ processors → length placement.of ≡ task_count g → All (λ p. p.0 < processors) placement.of → IsPlaced g placement
+placed_by g placement processors count full inside =
+    record { full = full; below = subst (λ n. All (λ (p : ProcId). p.0 < n) placement.of) (sym count) inside }
+
+-- what is told of a compiled bundle, where its parts were made one after another
+pub runs_by_plan : (p : ProgramParts) (processors : ℕ) (g : System) (clustering : Clustering) (placement : Placement) (plan : Plan) (b : Parts) → g ≡ p.graph → IsProgram p → IsGraph g
+    → IsRun g clustering → IsMerged g (cluster_numbers clustering.clusters) processors placement → IsPlaced g placement → IsOrdered g placement plan → IsEmission p placement plan (raw_of b)
+    → RunsByItsPlan p processors b
+runs_by_plan p processors g clustering placement plan b same program graph run merged placed ordered emission =
+    record {
+      compiled = record {
+        clustering = clustering;
+        run = subst (λ (s : System). IsRun s clustering) same run;
+        placement = placement;
+        merged = subst (λ (s : System). IsMerged s (cluster_numbers clustering.clusters) processors placement) same merged;
+        plan = plan;
+        ordered = subst (λ (s : System). IsOrdered s placement plan) same ordered;
+        emission = emission;
+      };
+      complete = plan_completes p placement plan b program (subst IsGraph same graph) (subst (λ (s : System). IsPlaced s placement) same placed)
+          (subst (λ (s : System). IsOrdered s placement plan) same ordered) emission;
+    }
+
+-- a bundle with such a run is good
+pub good_by_plan : (p : ProgramParts) (processors : ℕ) (b : Parts) → IsBundle b → RunsByItsPlan p processors b → IsGood b (step_count b)
+good_by_plan p processors b bundle by_plan =
+    let most = run_le (tags b) b start by_plan.complete.run (well_formed b bundle) by_plan.complete.is_run in
+    let least = complete_steps (tags b) b by_plan.complete.run by_plan.complete.is_run by_plan.complete.done in
+    record { run = by_plan.complete.run; is_run = by_plan.complete.is_run; count = omega (arith, most, least, start_left DatumId b); done = by_plan.complete.done }

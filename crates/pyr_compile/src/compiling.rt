@@ -1,0 +1,59 @@
+// The way from a program to its bundle.
+
+ghost use Rattle.std.specs.Prelude.{◌≡◌, ◌≤◌, IfOk};
+ghost use Rattle.pyr_bundle.specs.Raw.{IsWithinLimits};
+ghost use Rattle.pyr_bundle.specs.Parts.{raw_of};
+ghost use Rattle.pyr_bundle.specs.Faults.{IsLawful};
+ghost use Rattle.pyr_machine.specs.Counts.{step_count};
+ghost use Rattle.pyr_machine.specs.Good.{IsGood};
+ghost use Rattle.pyr_emit.specs.Meaning.{MeansTheSame};
+ghost use Rattle.pyr_compile.specs.Compiled.{IsCompiled};
+ghost use Rattle.pyr_compile.specs.PlanRun.{RunsByItsPlan};
+
+use pyr_bundle::Bundle;
+use pyr_dsc::cluster;
+use pyr_emit::emit;
+use pyr_graphtext::Program;
+use pyr_merge::merge;
+use pyr_num::Limits;
+use pyr_rcp::order;
+use std::alloc::{AllocError, Global};
+
+/// Compiles a program for this many processors, from 1 to `Limits::PROCESSORS`, after PYRROS (Yang and
+/// Gerasoulis, 1992): the tasks are clustered by dominant sequences, the clusters go to processors by
+/// load, the tasks are ordered there ready critical path first, and each processor gets the blocks of
+/// its tasks in this order. Each channel has room for all its sends.
+///
+/// The bundle is lawful and good: in every interleaving of its processors' steps, each unfinished
+/// state has an enabled step, and all end alike. Every datum has the value that it has in the program.
+///
+/// The error says that memory ran out. Beside `cluster` this takes little time.
+pub fn compile(alloc: Global, program: &Program, processors: u32) -> Result<Bundle, AllocError>
+    requires some { 1 ≤ processors }
+    requires few { processors ≤ Limits.PROCESSORS }
+
+    // It is exactly the bundle of the rules, of which a program has one.
+    ensures compiled { IfOk result (λ bundle. IsCompiled program.now processors (raw_of bundle)) }
+
+    // It keeps every law of bundles, and is within the limits.
+    ensures lawful { IfOk result (λ bundle. IsLawful (raw_of bundle)) }
+    ensures limits { IfOk result (λ bundle. IsWithinLimits (raw_of bundle)) }
+
+    // The run that follows the plan block by block is complete: it ends with every processor at its
+    // code's end, and all channels and stashes empty. So the bundle is good, and each such run has as
+    // many steps as there are instructions and sends.
+    ensures run { IfOk result (RunsByItsPlan program.now processors) }
+    ensures good { IfOk result (λ bundle. IsGood bundle (step_count bundle)) }
+
+    // In every frame every datum has the value that it has in the program.
+    ensures meaning { IfOk result (MeansTheSame program.now) }
+{
+    let graph = program.graph();
+    graph.well_formed();
+    let clustering = cluster(alloc, graph)?;
+    let placement = merge(alloc, graph, &clustering, processors)?;
+    let plan = order(alloc, graph, &placement)?;
+    let bundle = emit(alloc, program, &placement, &plan)?;
+    bundle.is_bundle();
+    Ok(bundle)
+}
