@@ -1,0 +1,11 @@
+pub mod WorkLemmas
+pub mod Outcomes
+pub mod OneAnswer
+pub mod Safety
+pub mod StopLemmas
+pub mod Reasons
+pub mod Conserved
+pub mod LeftLemmas
+pub mod UnreceivedLemmas
+pub mod RehearsalLemmas
+pub mod LoadLemmas
