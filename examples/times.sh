@@ -21,3 +21,5 @@ row /dev/null "$work/graph" make "$tasks"
 row "$work/graph" "$work/outputs" seq
 row "$work/graph" "$work/steps" cluster
 row "$work/graph" "$work/plan" gantt 64
+row "$work/graph" "$work/bundle" compile 64
+row "$work/bundle" "$work/report" check

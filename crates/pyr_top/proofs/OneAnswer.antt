@@ -3,9 +3,9 @@ use Rattle.std.proofs.Common.{◌≡◌, ◌≢◌, ◌⊎◌, ◌<◌, ◌≤�
 use Rattle.std.proofs.lemmas.Bool.{cases_lt, cases_order}
 use Rattle.pyr_num.specs.declared.limits.TheConstants.Limits.{INPUT}
 use Rattle.pyr_top.specs.declared.command.Command.{Command}
-use Rattle.pyr_top.specs.declared.command.Command.TheVariants.{Seq, Cluster, Gantt, Make}
+use Rattle.pyr_top.specs.declared.command.Command.TheVariants.{Seq, Cluster, Compile, Gantt, Check, Make}
 use Rattle.pyr_top.specs.declared.refusal.Refusal.{Refusal}
-use Rattle.pyr_top.specs.declared.refusal.Refusal.TheVariants.{Usage, Source, Sink, Memory, TooLong, Program}
+use Rattle.pyr_top.specs.declared.refusal.Refusal.TheVariants.{Usage, Source, Sink, Memory, TooLong, Program, Load}
 use Rattle.pyr_seq.specs.Sequential.{outputs_of, value_of, HasOneWriter}
 use Rattle.pyr_seq.proofs.SequentialLemmas.{values-same}
 use Rattle.pyr_graph.specs.System.{datum_numbers}
@@ -14,10 +14,17 @@ use Rattle.pyr_graphtext.specs.Program.{ProgramParts, tasks_of}
 use Rattle.pyr_graphtext.specs.Sequential.{IsOrder}
 use Rattle.pyr_graphtext.specs.Answer.{StandsFor}
 use Rattle.pyr_graphtext.proofs.OneAnswer.{one_answer_is_told}
+use Rattle.pyr_compile.proofs.UniqueLemmas.{one_text}
+use Rattle.pyr_machine.specs.Good.{Loads}
+use Rattle.pyr_loader.specs.Laws.{OneAnswerIsTold}
+use Rattle.pyr_loader.proofs.OneAnswer.{one_answer as one_load_answer}
 use Rattle.pyr_top.specs.OutputsText.{outputs_text}
 use Rattle.pyr_top.proofs.ClusterLemmas.{one_cluster_report}
 use Rattle.pyr_top.proofs.GanttLemmas.{one_gantt_report}
-use Rattle.pyr_top.specs.Answers.{IsPrinted, IsClusterReport, IsGanttReport, IsTextFor, GivesText, RefusesProgram, Gives, Answers}
+use Rattle.pyr_top.specs.Answers.{IsPrinted, IsClusterReport, IsBundleText, IsGanttReport, IsTextFor, GivesText, RefusesProgram, RefusesBundle, IsCheckReport, GivesCheck, check_report, Gives, Answers}
+
+loading : OneAnswerIsTold
+loading = one_load_answer
 
 -- no two tasks of a sound graph write one datum
 one_writer : (p : ProgramParts) (frame : ℕ) → IsSound p.graph → HasOneWriter (tasks_of p frame)
@@ -56,6 +63,8 @@ one_refusal input (Program f) Source first second = absurd second
 one_refusal input (Program f) Sink first second = absurd second
 one_refusal input (Program f) Memory first second = absurd second
 one_refusal input (Program f) TooLong first second = absurd second
+one_refusal input (Program f) (Load g) first second = absurd second
+one_refusal input (Load f) b first second = absurd first
 one_refusal input Usage b first second = absurd first
 one_refusal input Source b first second = absurd first
 one_refusal input Sink b first second = absurd first
@@ -70,6 +79,7 @@ stands_or_refuses input p Source stands refuses = refuses
 stands_or_refuses input p Sink stands refuses = refuses
 stands_or_refuses input p Memory stands refuses = refuses
 stands_or_refuses input p TooLong stands refuses = refuses
+stands_or_refuses input p (Load f) stands refuses = refuses
 
 -- where a program has one such text, a graph text has one
 one_text_for : (IsText : ProgramParts → List ℕ → Type 0) (input a b : List ℕ) → ((p : ProgramParts) → IsSound p.graph → IsText p a → IsText p b → a ≡ b) → IsTextFor IsText input a → IsTextFor IsText input b → a ≡ b
@@ -86,10 +96,49 @@ one_text_given IsText input (Ok a) (Err r) unique first second = absurd (stands_
 one_text_given IsText input (Err r) (Ok b) unique first second = absurd (stands_or_refuses input second.program r second.stands first)
 one_text_given IsText input (Err r) (Err q) unique first second = ap Err (one_refusal input r q first second)
 
+-- a program is compiled to one text
+one_bundle_text : (processors : ℕ) (p : ProgramParts) (a b : List ℕ) → IsBundleText processors p a → IsBundleText processors p b → a ≡ b
+one_bundle_text processors p a b first second = first.text.written ∙ one_text p processors first.raw second.raw first.compiled second.compiled ∙ sym second.text.written
+
+-- a bundle text is accepted or refused in one way
+one_fault : (input : List ℕ) (a b : Refusal) → RefusesBundle input a → RefusesBundle input b → a ≡ b
+one_fault input (Load f) (Load g) first second = ap Load (loading.one_refusal input f g first.0 second.0 first.1 second.1)
+one_fault input (Load f) Usage first second = absurd second
+one_fault input (Load f) Source first second = absurd second
+one_fault input (Load f) Sink first second = absurd second
+one_fault input (Load f) Memory first second = absurd second
+one_fault input (Load f) TooLong first second = absurd second
+one_fault input (Load f) (Program g) first second = absurd second
+one_fault input Usage b first second = absurd first
+one_fault input Source b first second = absurd first
+one_fault input Sink b first second = absurd first
+one_fault input Memory b first second = absurd first
+one_fault input TooLong b first second = absurd first
+one_fault input (Program f) b first second = absurd first
+
+accepted_or_refused : (input output : List ℕ) (r : Refusal) → IsCheckReport input output → RefusesBundle input r → ⊥
+accepted_or_refused input output (Load f) report refuses = loading.not_both input report.loaded f refuses.0 report.loads refuses.1
+accepted_or_refused input output Usage report refuses = refuses
+accepted_or_refused input output Source report refuses = refuses
+accepted_or_refused input output Sink report refuses = refuses
+accepted_or_refused input output Memory report refuses = refuses
+accepted_or_refused input output TooLong report refuses = refuses
+accepted_or_refused input output (Program f) report refuses = refuses
+
+one_check : (input : List ℕ) (given other : Result (List ℕ) Refusal) → GivesCheck input given → GivesCheck input other → given ≡ other
+one_check input (Ok a) (Ok b) first second =
+    let same : first.loaded ≡ second.loaded = loading.one_load input first.loaded second.loaded first.loads second.loads in
+    ap Ok (first.text ∙ ap (λ (l : Loads). check_report l.steps) same ∙ sym second.text)
+one_check input (Ok a) (Err r) first second = absurd (accepted_or_refused input a r first second)
+one_check input (Err r) (Ok b) first second = absurd (accepted_or_refused input b r second first)
+one_check input (Err r) (Err q) first second = ap Err (one_fault input r q first second)
+
 one_given : (command : Command) (input : List ℕ) (given other : Result (List ℕ) Refusal) → Gives command input given → Gives command input other → given ≡ other
 one_given Seq input given other first second = one_text_given IsPrinted input given other one_print first second
 one_given Cluster input given other first second = one_text_given IsClusterReport input given other (λ p a b sound. one_cluster_report p a b) first second
+one_given (Compile processors) input given other first second = one_text_given (IsBundleText processors) input given other (λ p a b sound. one_bundle_text processors p a b) first second
 one_given (Gantt processors) input given other first second = one_text_given (IsGanttReport processors) input given other (λ p a b sound. one_gantt_report processors p a b) first second
+one_given Check input given other first second = one_check input given other first second
 one_given (Make tasks) input given other first second = first ∙ sym second
 
 -- a command has one defined answer to an input

@@ -1,12 +1,12 @@
 -- What the program answers to its words and its input.
-use Rattle.std.specs.Prelude.{◌≡◌, ◌≢◌, ◌⊎◌, ⊤, ℕ, ◌<◌, ◌≤◌, Bool, true, false, List, Option, Result, Ok, Err, IfSome, IsOkAnd, length}
+use Rattle.std.specs.Prelude.{◌≡◌, ◌≢◌, ◌⊎◌, ⊤, ℕ, ◌<◌, ◌≤◌, Bool, true, false, List, ◌∷◌, ◌++◌, codes, decimal, Option, Result, Ok, Err, IfSome, IsOkAnd, length}
 use Rattle.std.specs.Io.KnownBytes.{Appends, IsAtEnd}
 use Rattle.pyr_num.specs.declared.limits.TheConstants.Limits.{INPUT}
 use Rattle.pyr_port.specs.Giving.{AppendsPrefix}
 use Rattle.pyr_top.specs.declared.command.Command.{Command}
-use Rattle.pyr_top.specs.declared.command.Command.TheVariants.{Seq, Cluster, Gantt, Make}
+use Rattle.pyr_top.specs.declared.command.Command.TheVariants.{Seq, Cluster, Compile, Gantt, Check, Make}
 use Rattle.pyr_top.specs.declared.refusal.Refusal.{Refusal}
-use Rattle.pyr_top.specs.declared.refusal.Refusal.TheVariants.{Usage, Source, Sink, Memory, TooLong, Program}
+use Rattle.pyr_top.specs.declared.refusal.Refusal.TheVariants.{Usage, Source, Sink, Memory, TooLong, Program, Load}
 use Rattle.pyr_top.specs.declared.status.Status as status
 use Rattle.pyr_top.specs.declared.status.Status.TheVariants as statuses
 use Rattle.pyr_top.specs.Commands.{input_of, Spells, NoCommand, ReadsInput}
@@ -22,6 +22,12 @@ use Rattle.pyr_dsc.specs.Run.{IsRun}
 use Rattle.pyr_merge.specs.Merge.{IsMerged}
 use Rattle.pyr_rcp.specs.Order.{IsOrdered}
 use Rattle.pyr_gantt.specs.Gantt.{gantt_report}
+use Rattle.pyr_bundle.specs.declared.raw_bundle.RawBundle.{RawBundle}
+use Rattle.pyr_bundletext.specs.Answer.{StandsFor as IsTextOf}
+use Rattle.pyr_compile.specs.Compiled.{IsCompiled}
+use Rattle.pyr_machine.specs.Good.{Loads}
+use Rattle.pyr_loader.specs.declared.load_fault.LoadFault.TheVariants as loads
+use Rattle.pyr_loader.specs.Answer.{IsLoadOf, IsRefusal}
 use Rattle.pyr_make.specs.Layered.{layered_program}
 use Rattle.pyr_top.specs.ClusterReport.{cluster_report}
 use Rattle.pyr_graphtext.specs.declared.program_fault.ProgramFault.TheVariants as faults
@@ -42,6 +48,13 @@ pub record IsClusterReport (program : ProgramParts) (output : List ℕ) : Type 0
   pub clustering : Clustering
   pub run : IsRun program.graph clustering
   pub text : output ≡ cluster_report program clustering
+
+-- the text of the bundle that a program is compiled to, for so many processors
+pub record IsBundleText (processors : ℕ) (program : ProgramParts) (output : List ℕ) : Type 0 where
+  pub raw : RawBundle
+  pub compiled : IsCompiled program processors raw
+  -- its one spelling
+  pub text : IsTextOf output raw
 
 -- the report on the plan of a program for so many processors
 pub record IsGanttReport (processors : ℕ) (program : ProgramParts) (output : List ℕ) : Type 0 where
@@ -69,17 +82,40 @@ abbrev pub GivesText : (ProgramParts → List ℕ → Type 0) → List ℕ → R
 GivesText IsText input (Ok output) = IsTextFor IsText input output
 GivesText IsText input (Err refusal) = RefusesProgram input refusal
 
+-- the report on an accepted bundle with complete runs of so many steps
+abbrev pub check_report : ℕ → List ℕ
+check_report steps = codes "accepted\nsteps" ++ 32 ∷ decimal steps ++ codes "\n"
+
+-- the input is the text of a bundle that the loader accepts, and this is the report on it
+pub record IsCheckReport (input output : List ℕ) : Type 0 where
+  pub loaded : Loads
+  pub loads : IsLoadOf input loaded
+  pub text : output ≡ check_report loaded.steps
+
+-- the loader refuses the input so
+abbrev pub RefusesBundle : List ℕ → Refusal → Type 0
+RefusesBundle input (Load fault) = (fault ≢ loads.Memory) × IsRefusal input fault
+RefusesBundle input refusal = ⊥
+
+-- what `check` makes of a bundle text: the report on it, or its refusal
+abbrev pub GivesCheck : List ℕ → Result (List ℕ) Refusal → Type 0
+GivesCheck input (Ok output) = IsCheckReport input output
+GivesCheck input (Err refusal) = RefusesBundle input refusal
+
 -- what a command gives for an input within the limit: its output, or its refusal
 abbrev pub Gives : Command → List ℕ → Result (List ℕ) Refusal → Type 0
 Gives Seq input given = GivesText IsPrinted input given
 Gives Cluster input given = GivesText IsClusterReport input given
+Gives (Compile processors) input given = GivesText (IsBundleText processors) input given
 Gives (Gantt processors) input given = GivesText (IsGanttReport processors) input given
+Gives Check input given = GivesCheck input given
 Gives (Make tasks) input given = given ≡ Ok (program_text (layered_program tasks))
 
 -- a command refuses the input so, or memory ran out
 abbrev pub Refuses : Command → List ℕ → Refusal → Type 0
 Refuses command input Memory = ⊤
 Refuses command input (Program fault) = Gives command input (Err (Program fault))
+Refuses command input (Load fault) = Gives command input (Err (Load fault))
 Refuses command input refusal = ⊥
 
 -- the defined answer of a command to an input: what it gives, and above the limit the refusal for that
@@ -111,6 +147,8 @@ Cause words left source out Memory = Unit {0}
 Cause words left source out TooLong = IsAnswered words left (λ given. given ≡ Err TooLong)
 Cause words left source out (Program fault) =
     (fault ≢ faults.Memory) × IsAnswered words left (λ given. given ≡ Err (Program fault))
+Cause words left source out (Load fault) =
+    (fault ≢ loads.Memory) × IsAnswered words left (λ given. given ≡ Err (Load fault))
 
 -- the status tells of the input
 abbrev pub tells_of_input : status.Status → Bool

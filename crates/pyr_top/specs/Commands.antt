@@ -3,7 +3,7 @@ use Rattle.std.specs.Prelude.{◌≡◌, ⊤, ℕ, ◌≤◌, Bool, true, false,
 use Rattle.std.specs.declared.alloc.Global.{Global}
 use Rattle.pyr_num.specs.declared.limits.TheConstants.Limits.{LEAST_PROCESSORS, PROCESSORS, TASKS}
 use Rattle.pyr_top.specs.declared.command.Command.{Command}
-use Rattle.pyr_top.specs.declared.command.Command.TheVariants.{Seq, Cluster, Gantt, Make}
+use Rattle.pyr_top.specs.declared.command.Command.TheVariants.{Seq, Cluster, Compile, Gantt, Check, Make}
 
 -- the bytes of each word
 abbrev pub texts : List (String Global) → List (List ℕ)
@@ -13,14 +13,18 @@ texts words = map string_bytes words
 abbrev pub spelling : Command → List (List ℕ)
 spelling Seq = codes "seq" ∷ []
 spelling Cluster = codes "cluster" ∷ []
+spelling (Compile processors) = codes "compile" ∷ decimal processors ∷ []
 spelling (Gantt processors) = codes "gantt" ∷ decimal processors ∷ []
+spelling Check = codes "check" ∷ []
 spelling (Make tasks) = codes "make" ∷ decimal tasks ∷ []
 
 -- the number of a command is in its range
 abbrev pub IsWithinRange : Command → Type 0
 IsWithinRange Seq = ⊤
 IsWithinRange Cluster = ⊤
+IsWithinRange (Compile processors) = (LEAST_PROCESSORS ≤ processors) × (processors ≤ PROCESSORS)
 IsWithinRange (Gantt processors) = (LEAST_PROCESSORS ≤ processors) × (processors ≤ PROCESSORS)
+IsWithinRange Check = ⊤
 IsWithinRange (Make tasks) = (1 ≤ tasks) × (tasks ≤ TASKS)
 
 -- the words ask for the command
@@ -32,7 +36,9 @@ pub record Spells (words : List (List ℕ)) (command : Command) : Type 0 where
 abbrev pub has_input : Command → Bool
 has_input Seq = true
 has_input Cluster = true
+has_input (Compile processors) = true
 has_input (Gantt processors) = true
+has_input Check = true
 has_input (Make tasks) = false
 
 -- the bytes that a command is given, where they are told: those that are left in the source, and none where it has no input

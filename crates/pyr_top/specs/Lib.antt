@@ -1,9 +1,11 @@
 pub mod Status
 pub mod Messages
+pub mod LoadMessages
 pub mod Refusals
 pub mod Commands
 pub mod Numerals
 pub mod OutputsText
 pub mod ClusterReport
 pub mod Answers
+pub mod Headline
 pub mod Responding

@@ -3,9 +3,10 @@ use Rattle.std.specs.Prelude.{◌≡◌, ◌≢◌, ⊤, ◌≤◌, List, ℕ, O
 use Rattle.std.specs.Io.KnownBytes.{IsAtEnd}
 use Rattle.pyr_num.specs.declared.limits.TheConstants.Limits.{INPUT}
 use Rattle.pyr_graphtext.specs.declared.program_fault.ProgramFault.TheVariants as faults
+use Rattle.pyr_loader.specs.declared.load_fault.LoadFault.TheVariants as loads
 use Rattle.pyr_top.specs.declared.command.Command.{Command}
 use Rattle.pyr_top.specs.declared.refusal.Refusal.{Refusal}
-use Rattle.pyr_top.specs.declared.refusal.Refusal.TheVariants.{Usage, Source, Sink, Memory, TooLong, Program}
+use Rattle.pyr_top.specs.declared.refusal.Refusal.TheVariants.{Usage, Source, Sink, Memory, TooLong, Program, Load}
 use Rattle.pyr_top.specs.Commands.{has_input, input_of}
 use Rattle.pyr_top.specs.Answers.{IsGiven}
 
@@ -22,6 +23,8 @@ CauseOf command left source Memory = ⊤
 CauseOf command left source TooLong = IsGiven command left (λ given. given ≡ Err TooLong)
 CauseOf command left source (Program fault) =
     (fault ≢ faults.Memory) × IsGiven command left (λ given. given ≡ Err (Program fault))
+CauseOf command left source (Load fault) =
+    (fault ≢ loads.Memory) × IsGiven command left (λ given. given ≡ Err (Load fault))
 
 -- where the command has an input within the limit, it was read to its end
 abbrev pub ReachesEnd : Command → Option (List ℕ) → Option (List ℕ) → Type 0

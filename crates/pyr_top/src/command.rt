@@ -13,9 +13,14 @@ pub enum Command {
     Seq,
     /// Clusters the tasks of a graph text, and tells the steps.
     Cluster,
+    /// Compiles a graph text for this many processors, from 1 to `Limits::PROCESSORS`, and writes the
+    /// text of its bundle.
+    Compile(u32),
     /// Plans the tasks of a graph text for this many processors, from 1 to `Limits::PROCESSORS`, and
     /// tells when each runs.
     Gantt(u32),
+    /// Tells whether a bundle text is that of a bundle that can be run, and in how many steps.
+    Check,
     /// Writes the text of a generated graph of this many tasks, from 1 to `Limits::TASKS`.
     Make(u32),
 }
@@ -26,7 +31,11 @@ impl Command {
         ensures { result ≡ has_input self }
     {
         match self {
-            Command::Seq | Command::Cluster | Command::Gantt(_) => true,
+            Command::Seq
+            | Command::Cluster
+            | Command::Compile(_)
+            | Command::Gantt(_)
+            | Command::Check => true,
             Command::Make(_) => false,
         }
     }
@@ -53,6 +62,7 @@ fn plain_command(word: &str) -> Option<Command>
     match word {
         "seq" => Some(Command::Seq),
         "cluster" => Some(Command::Cluster),
+        "check" => Some(Command::Check),
         _ => None,
     }
 }
@@ -63,14 +73,19 @@ fn numbered_command(word: &str, text: &str) -> Option<Command>
     ensures none { IfNone result (NoCommand (word.now ∷ text.now ∷ [])) }
 {
     match word {
-        "gantt" => Some(Command::Gantt(number_in(
-            text,
-            Limits::LEAST_PROCESSORS,
-            Limits::PROCESSORS,
-        )?)),
+        "compile" => Some(Command::Compile(processors_in(text)?)),
+        "gantt" => Some(Command::Gantt(processors_in(text)?)),
         "make" => Some(Command::Make(number_in(text, 1, Limits::TASKS)?)),
         _ => None,
     }
+}
+
+// The number of processors that the text writes.
+fn processors_in(text: &str) -> Option<u32>
+    ensures some { IfSome result (IsNumeralIn text.now Limits.LEAST_PROCESSORS Limits.PROCESSORS) }
+    ensures none { IfNone result (NoNumeralIn text.now Limits.LEAST_PROCESSORS Limits.PROCESSORS) }
+{
+    number_in(text, Limits::LEAST_PROCESSORS, Limits::PROCESSORS)
 }
 
 // The number that the text writes, where it is in this range.

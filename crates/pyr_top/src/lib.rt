@@ -4,6 +4,7 @@
 mod cluster_report;
 mod command;
 mod decimals;
+mod load_messages;
 mod messages;
 mod outputs_text;
 mod refusal;

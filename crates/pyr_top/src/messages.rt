@@ -34,7 +34,7 @@ fn at_line(alloc: Global, number: u32) -> Result<Vec<u8>, AllocError>
     Ok(line)
 }
 
-fn text_line(alloc: Global, number: u32) -> Result<Vec<u8>, AllocError>
+pub(crate) fn text_line(alloc: Global, number: u32) -> Result<Vec<u8>, AllocError>
     ensures { IfOk result (λ line. line.items
         ≡ codes "line " ++ decimal number ++ codes ": " ++ codes "text\n") }
 {
@@ -43,7 +43,7 @@ fn text_line(alloc: Global, number: u32) -> Result<Vec<u8>, AllocError>
     Ok(line)
 }
 
-fn limit_line(alloc: Global, number: u32, which: Quantity) -> Result<Vec<u8>, AllocError>
+pub(crate) fn limit_line(alloc: Global, number: u32, which: Quantity) -> Result<Vec<u8>, AllocError>
     ensures { IfOk result (λ line. line.items ≡ limit_line number which) }
 {
     let mut line = at_line(alloc, number)?;

@@ -1,10 +1,11 @@
 // Why a command isn't answered.
 ghost use Rattle.std.specs.Prelude.{◌≡◌, IfSome, IfNone};
-ghost use Rattle.pyr_top.specs.Refusals.{status_of, line_of, refusal_of, refusal_by, IsMade};
+ghost use Rattle.pyr_top.specs.Refusals.{status_of, line_of, refusal_of, refusal_by, refusal_to_load, IsMade};
 ghost use Rattle.pyr_top.specs.declared.refusal.Refusal.TheVariants.{Sink as SinkRefusal, Memory as MemoryRefusal};
 
 use crate::Status;
 use pyr_graphtext::ProgramFault;
+use pyr_loader::LoadFault;
 use pyr_port::{ReadFault, SinkFault};
 use std::alloc::AllocError;
 
@@ -23,6 +24,8 @@ pub enum Refusal {
     TooLong,
     /// The input is a graph text that stands for no program.
     Program(ProgramFault),
+    /// The input is no text of a bundle that can be run.
+    Load(LoadFault),
 }
 
 impl Refusal {
@@ -44,6 +47,14 @@ impl Refusal {
                 ProgramFault::Cycle { .. } => Status::Cycle,
                 ProgramFault::Memory => Status::Memory,
             },
+            Refusal::Load(fault) => match fault {
+                LoadFault::BadText { .. } => Status::Text,
+                LoadFault::Limit { .. } => Status::Limit,
+                LoadFault::Law { .. } => Status::Law,
+                LoadFault::Stuck { .. } => Status::Stuck,
+                LoadFault::Leftover { .. } => Status::Leftover,
+                LoadFault::Memory => Status::Memory,
+            },
         }
     }
 
@@ -58,7 +69,7 @@ impl Refusal {
             Refusal::Sink => Some(b"sink failed\n"),
             Refusal::Memory => Some(b"no memory\n"),
             Refusal::TooLong => Some(b"limit input\n"),
-            Refusal::Program(_) => None,
+            Refusal::Program(_) | Refusal::Load(_) => None,
         }
     }
 }
@@ -82,6 +93,17 @@ impl From<ProgramFault> for Refusal {
         match fault {
             ProgramFault::Memory => Refusal::Memory,
             fault => Refusal::Program(fault),
+        }
+    }
+}
+
+impl From<LoadFault> for Refusal {
+    ghost from_gives = { λ fault refusal. refusal ≡ refusal_to_load fault };
+
+    fn from(fault: LoadFault) -> Self {
+        match fault {
+            LoadFault::Memory => Refusal::Memory,
+            fault => Refusal::Load(fault),
         }
     }
 }

@@ -41,8 +41,10 @@ task u12 6\nreads d1 d2\nwrites e2\nfor i 3\n\
 put e2[i] = ((d2[i] * d1[1]) - (d1[i] * d2[1]))\ndone\nend\nprint e2\nprint d1\n";
 
 const HEAVY: &[u8] = b"data x 1 1\ndata y 1 1\ndata z 1 1\ndata w 1 0\n\
-task a 2\nwrites x\nend\ntask b 10\nreads x\nwrites y\nend\n\
-task c 10\nreads x\nwrites z\nend\ntask d 1\nreads y z\nwrites w\nend\nprint w\n";
+task a 2\nwrites x\nput x[0] = 3\nend\n\
+task b 10\nreads x\nwrites y\nput y[0] = (x[0] + 1)\nend\n\
+task c 10\nreads x\nwrites z\nput z[0] = (x[0] * 2)\nend\n\
+task d 1\nreads y z\nwrites w\nput w[0] = (y[0] + z[0])\nend\nprint w\n";
 
 const CHAIN: &[u8] = b"data x 1 0\ndata y 1 0\n\
 task a 1\nwrites x\nend\ntask b 1\nreads x\nwrites y\nend\n";
@@ -225,6 +227,12 @@ fn words_that_are_no_command(rt: HostRuntime) -> Result<(), Fail> {
         &["gantt", "65"],
         &["gantt", "01"],
         &["gantt", "2", "2"],
+        &["compile"],
+        &["compile", "0"],
+        &["compile", "65"],
+        &["compile", "01"],
+        &["compile", "2", "calm"],
+        &["check", "1"],
         &["make"],
         &["make", "0"],
         &["make", "4097"],
@@ -252,21 +260,32 @@ fn a_failing_err_changes_no_status(rt: HostRuntime) -> Result<(), Fail> {
     Ok(())
 }
 
-// What the words are answered with a text: the status, the output and the line on `err`.
-fn told(
+// Whether the words are answered, for this text, with this status, output and line on `err`.
+fn is_told(
     alloc: Global,
     words: &[&str],
     text: &[u8],
-) -> Result<(u8, MemorySink, MemorySink), AllocError> {
+    told: (u8, &[u8], &[u8]),
+) -> Result<bool, AllocError> {
     let mut call = Call::new(alloc, words, text.to_vec(alloc)?)?;
     let status = call.status(alloc);
-    let Call {
-        words: _,
-        source: _,
-        out,
-        err,
-    } = call;
-    Ok((status, out, err))
+    Ok(status == told.0 && call.out.bytes() == told.1 && call.err.bytes() == told.2)
+}
+
+// Whether the command succeeds with this output.
+fn gives(alloc: Global, words: &[&str], text: &[u8], output: &[u8]) -> Result<bool, AllocError> {
+    is_told(alloc, words, text, (0, output, b""))
+}
+
+// Whether the command refuses the text so.
+fn refuses(
+    alloc: Global,
+    words: &[&str],
+    text: &[u8],
+    code: u8,
+    line: &[u8],
+) -> Result<bool, AllocError> {
+    is_told(alloc, words, text, (code, b"", line))
 }
 
 #[test]
@@ -279,10 +298,7 @@ fn seq_prints_the_printed_data(rt: HostRuntime) -> Result<(), Fail> {
         (ELIMINATION, b"e2 = 0 0 18446744073709551556\nd1 = 0 6 6\n"),
         (FIVE, b"w = 6\n"),
     ] {
-        let (status, out, err) = told(rt.alloc(), &["seq"], text)?;
-        assert_eq!(rt; status, 0);
-        assert_eq!(rt; out.bytes(), output);
-        assert_eq!(rt; err.bytes(), b"".as_slice());
+        assert!(rt; gives(rt.alloc(), &["seq"], text, output)?);
     }
     Ok(())
 }
@@ -313,10 +329,7 @@ clusters 4\n",
             b"pt 22\na 0 0 22\nb 0 2 21\ne 0 6 17\nc 1 3 17\nd 1 15 16\nclusters 2\n",
         ),
     ] {
-        let (status, out, err) = told(rt.alloc(), &["cluster"], text)?;
-        assert_eq!(rt; status, 0);
-        assert_eq!(rt; out.bytes(), report);
-        assert_eq!(rt; err.bytes(), b"".as_slice());
+        assert!(rt; gives(rt.alloc(), &["cluster"], text, report)?);
     }
     Ok(())
 }
@@ -360,10 +373,208 @@ fn gantt_tells_the_plan(rt: HostRuntime) -> Result<(), Fail> {
 1 ##########..................................................\n",
         ),
     ] {
-        let (status, out, err) = told(rt.alloc(), &["gantt", processors], text)?;
-        assert_eq!(rt; status, 0);
-        assert_eq!(rt; out.bytes(), report);
-        assert_eq!(rt; err.bytes(), b"".as_slice());
+        assert!(rt; gives(rt.alloc(), &["gantt", processors], text, report)?);
+    }
+    Ok(())
+}
+
+// The bundle of the heavy diamond on two processors.
+const HEAVY_BUNDLE: &[u8] = b"pyrros 1\nprocessors 2\n\
+datum x 1\ndatum y 1\ndatum z 1\ndatum w 1\n\
+task 0\nreads\nwrites 0\npush 0\npush 3\nput 0\nend\n\
+task 0\nreads 0\nwrites 1\npush 0\npush 0\nget 0\npush 1\nadd\nput 0\nend\n\
+task 0\nreads 0\nwrites 2\npush 0\npush 0\nget 0\npush 2\nmul\nput 0\nend\n\
+task 0\nreads 1 2\nwrites 3\npush 0\npush 0\nget 0\npush 0\nget 1\nadd\nput 0\nend\n\
+print 3\nchannel 0 1 2\n\
+processor 0\nexec 0\nsend 1 0\nexec 1\nsend 1 1\n\
+processor 1\nrecv 0 0\nexec 2\nrecv 0 1\nexec 3\nstop\n";
+
+// That of the two independent tasks.
+const TWO_BUNDLE: &[u8] = b"pyrros 1\nprocessors 2\ndatum x 1\ndatum y 1\n\
+task 0\nreads\nwrites 0\npush 0\npush 1\nput 0\nend\n\
+task 0\nreads\nwrites 1\npush 0\npush 2\nput 0\nend\n\
+print 0\nprint 1\nprocessor 0\nexec 0\nprocessor 1\nexec 1\nstop\n";
+
+// Whether the text of the compiled bundle ends so.
+fn ends(alloc: Global, processors: &str, text: &[u8], end: &[u8]) -> Result<bool, AllocError> {
+    let mut call = Call::new(alloc, &["compile", processors], text.to_vec(alloc)?)?;
+    Ok(call.status(alloc) == 0 && call.out.bytes().ends_with(end))
+}
+
+#[test]
+fn compile_writes_the_bundle(rt: HostRuntime) -> Result<(), Fail> {
+    let one = b"pyrros 1\nprocessors 1\ndatum x 1\ntask 0\nreads\nwrites 0\n\
+push 0\npush 7\nput 0\nend\nprint 0\nprocessor 0\nexec 0\nstop\n";
+    let loops = b"pyrros 1\nprocessors 1\ndatum x 1\ntask 3\nreads\nwrites 0\n\
+loop 0 27\nloop 1 12345\npush 0\nstore 2\ndone\ndone\nend\n\
+print 0\nprocessor 0\nexec 0\nstop\n";
+    for (processors, text, bundle) in [
+        ("1", SEVEN, one.as_slice()),
+        ("1", LOOPS, loops),
+        ("2", TWO, TWO_BUNDLE),
+        ("2", HEAVY, HEAVY_BUNDLE),
+    ] {
+        assert!(rt; gives(rt.alloc(), &["compile", processors], text, bundle)?);
+    }
+    Ok(())
+}
+
+#[test]
+fn compile_shares_the_tasks(rt: HostRuntime) -> Result<(), Fail> {
+    for (processors, text, end) in [
+        (
+            "1",
+            TWO,
+            b"print 0\nprint 1\nprocessor 0\nexec 0\nexec 1\nstop\n".as_slice(),
+        ),
+        (
+            "3",
+            DIAMOND,
+            b"print 3\nprocessor 0\nexec 0\nexec 2\nexec 1\nexec 3\n\
+processor 1\nprocessor 2\nstop\n",
+        ),
+        (
+            "2",
+            FIVE,
+            b"print 4\nchannel 1 0 2\nprocessor 0\nrecv 1 0\nexec 2\nrecv 1 2\nexec 4\n\
+processor 1\nexec 0\nsend 0 0\nexec 1\nexec 3\nsend 0 2\nstop\n",
+        ),
+        (
+            "2",
+            ELIMINATION,
+            b"print 5\nprint 3\nchannel 1 0 3\n\
+processor 0\nrecv 1 0\nrecv 1 2\nexec 4\nrecv 1 3\nexec 5\n\
+processor 1\nexec 0\nsend 0 0\nexec 1\nexec 3\nsend 0 3\nexec 2\nsend 0 2\nstop\n",
+        ),
+    ] {
+        assert!(rt; ends(rt.alloc(), processors, text, end)?);
+    }
+    Ok(())
+}
+
+// Each of two tasks waits for what the other writes.
+const WAITING_BUNDLE: &[u8] = b"pyrros 1\nprocessors 2\ndatum x 1\ndatum y 1\n\
+task 0\nreads 1\nwrites 0\npush 0\npush 0\nget 0\nput 0\nend\n\
+task 0\nreads 0\nwrites 1\npush 0\npush 0\nget 0\nput 0\nend\n\
+print 0\nchannel 0 1 1\nchannel 1 0 1\n\
+processor 0\nrecv 1 1\nexec 0\nsend 1 0\n\
+processor 1\nrecv 0 0\nexec 1\nsend 0 1\nstop\n";
+
+// Both processors send before they receive; the capacities are left out.
+const CROSSING: [&[u8]; 3] = [
+    b"pyrros 1\nprocessors 2\ndatum x 1\ndatum y 1\ndatum z 1\ndatum w 1\n\
+task 0\nreads\nwrites 0 1\nend\ntask 0\nreads\nwrites 2 3\nend\nchannel 0 1 ",
+    b"\nchannel 1 0 ",
+    b"\nprocessor 0\nexec 0\nsend 1 0\nsend 1 1\nrecv 1 2\nrecv 1 3\n\
+processor 1\nexec 1\nsend 0 2\nsend 0 3\nrecv 0 0\nrecv 0 1\nstop\n",
+];
+
+// Its data are received in another order than they are sent.
+const TURNED_BUNDLE: &[u8] = b"pyrros 1\nprocessors 2\ndatum x 1\ndatum y 1\ndatum z 1\n\
+task 0\nreads\nwrites 0 1\npush 0\npush 1\nput 0\npush 0\npush 2\nput 1\nend\n\
+task 0\nreads 0 1\nwrites 2\npush 0\npush 0\nget 0\npush 0\nget 1\nsub\nput 0\nend\n\
+print 2\nchannel 0 1 2\nprocessor 0\nexec 0\nsend 1 0\nsend 1 1\n\
+processor 1\nrecv 0 1\nrecv 0 0\nexec 1\nstop\n";
+
+// What stands before the code of a bundle with one datum that is sent.
+const SENT: &[u8] = b"pyrros 1\nprocessors 2\ndatum x 1\ntask 0\nreads\nwrites 0\nend\n\
+print 0\nchannel 0 1 1\n";
+
+// These texts one behind the other.
+fn joined(alloc: Global, parts: &[&[u8]]) -> Result<Vec<u8>, AllocError> {
+    let mut text = Vec::new(alloc);
+    for part in parts {
+        text.extend_from_slice(part)?;
+    }
+    Ok(text)
+}
+
+// The crossing bundle with these capacities.
+fn crossing(alloc: Global, capacities: [&[u8]; 2]) -> Result<Vec<u8>, AllocError> {
+    let [head, middle, end] = CROSSING;
+    joined(alloc, &[head, capacities[0], middle, capacities[1], end])
+}
+
+#[test]
+fn check_accepts_what_is_good(rt: HostRuntime) -> Result<(), Fail> {
+    let alloc = rt.alloc();
+    let roomy = crossing(alloc, [b"2", b"2"])?;
+    for (text, report) in [
+        (HEAVY_BUNDLE, b"accepted\nsteps 10\n".as_slice()),
+        (TWO_BUNDLE, b"accepted\nsteps 2\n"),
+        (TURNED_BUNDLE, b"accepted\nsteps 8\n"),
+        (&roomy, b"accepted\nsteps 14\n"),
+    ] {
+        assert!(rt; gives(alloc, &["check"], text, report)?);
+    }
+    Ok(())
+}
+
+#[test]
+fn check_accepts_what_is_compiled(rt: HostRuntime) -> Result<(), Fail> {
+    for (processors, text, report) in [
+        ("3", DIAMOND, b"accepted\nsteps 4\n".as_slice()),
+        ("2", FIVE, b"accepted\nsteps 11\n"),
+        ("2", ELIMINATION, b"accepted\nsteps 15\n"),
+    ] {
+        let mut call = Call::new(
+            rt.alloc(),
+            &["compile", processors],
+            text.to_vec(rt.alloc())?,
+        )?;
+        assert_eq!(rt; call.status(rt.alloc()), 0);
+        assert!(rt; gives(rt.alloc(), &["check"], call.out.bytes(), report)?);
+    }
+    Ok(())
+}
+
+#[test]
+fn check_refuses_what_is_not(rt: HostRuntime) -> Result<(), Fail> {
+    let alloc = rt.alloc();
+    let narrow = crossing(alloc, [b"1", b"1"])?;
+    let wide = crossing(alloc, [b"3", b"1"])?;
+    let left = joined(
+        alloc,
+        &[SENT, b"processor 0\nexec 0\nsend 1 0\nprocessor 1\nstop\n"],
+    )?;
+    let twice = joined(
+        alloc,
+        &[
+            SENT,
+            b"processor 0\nexec 0\nsend 1 0\nprocessor 1\nexec 0\nstop\n",
+        ],
+    )?;
+    let early = joined(
+        alloc,
+        &[
+            SENT,
+            b"processor 0\nsend 1 0\nexec 0\nprocessor 1\nrecv 0 0\nstop\n",
+        ],
+    )?;
+    let longer = joined(alloc, &[HEAVY_BUNDLE, b"\n"])?;
+    for (text, code, line) in [
+        (
+            WAITING_BUNDLE,
+            11,
+            b"stuck 0:0 empty 1, 1:0 empty 0\n".as_slice(),
+        ),
+        (&narrow, 11, b"stuck 0:2 full 1, 1:2 full 0\n"),
+        (&wide, 10, b"law 11 at 0 0\n"),
+        (&left, 12, b"leftover 0 1 0\n"),
+        (&twice, 10, b"law 7 at 0 0\n"),
+        (&early, 11, b"stuck 0:0 lacks 0, 1:0 empty 0\n"),
+        (&HEAVY_BUNDLE[..10], 6, b"line 2: text\n"),
+        (&HEAVY_BUNDLE[..9], 6, b"line 2: text\n"),
+        (b"", 6, b"line 1: text\n"),
+        (&longer, 6, b"line 58: text\n"),
+        (b"pyrros 1\nprocessors 02\n", 6, b"line 2: text\n"),
+        (
+            b"pyrros 1\nprocessors 65\n",
+            7,
+            b"line 2: limit processors\n",
+        ),
+    ] {
+        assert!(rt; refuses(alloc, &["check"], text, code, line)?);
     }
     Ok(())
 }
@@ -379,22 +590,22 @@ fn make_writes_the_generated_graph(rt: HostRuntime) -> Result<(), Fail> {
     let mut rest = [0; 100];
     assert_eq!(rt; call.source.take(&mut rest), Ok(SEVEN.len()));
 
-    let (made, layers, _) = told(alloc, &["make", "66"], b"")?;
-    assert_eq!(rt; made, 0);
-    let (run, out, _) = told(alloc, &["seq"], layers.bytes())?;
-    assert_eq!(rt; run, 0);
-    assert_eq!(rt; out.bytes(), b"d64 = 65\nd65 = 74\n".as_slice());
+    let mut layers = Call::new(alloc, &["make", "66"], Vec::new(alloc))?;
+    assert_eq!(rt; layers.status(alloc), 0);
+    assert!(rt; gives(alloc, &["seq"], layers.out.bytes(), b"d64 = 65\nd65 = 74\n")?);
     Ok(())
 }
 
 #[test]
 fn each_fault_has_its_line(rt: HostRuntime) -> Result<(), Fail> {
     for (text, code, line) in REFUSED {
-        for words in [["seq"].as_slice(), &["cluster"], &["gantt", "2"]] {
-            let (status, out, err) = told(rt.alloc(), words, text)?;
-            assert_eq!(rt; status, code);
-            assert_eq!(rt; out.bytes(), b"".as_slice());
-            assert_eq!(rt; err.bytes(), line);
+        for words in [
+            ["seq"].as_slice(),
+            &["cluster"],
+            &["gantt", "2"],
+            &["compile", "2"],
+        ] {
+            assert!(rt; refuses(rt.alloc(), words, text, code, line)?);
         }
     }
     Ok(())

@@ -1,12 +1,13 @@
 // The top call.
-ghost use Rattle.std.specs.Prelude.{◌≡◌, ◌≢◌, ◌⊎◌, ◌↔◌, ◌≤◌, ℕ, List, length, IfOk, IfErr, OnOk, IsTrue, vec_len};
+ghost use Rattle.std.specs.Prelude.{◌≡◌, ◌≢◌, ◌⊎◌, ◌↔◌, ◌≤◌, ℕ, List, length, IfSome, IfOk, IfErr, OnOk, IsTrue, vec_len};
 ghost use Rattle.std.specs.Io.KnownBytes.{Appends};
 ghost use Rattle.pyr_port.specs.Causes.{Rose};
 ghost use Rattle.pyr_port.specs.Giving.{AppendsPrefix};
 ghost use Rattle.pyr_graphtext.specs.Canonical.{program_text};
 ghost use Rattle.pyr_make.specs.Layered.{layered_program};
-ghost use Rattle.pyr_top.specs.Commands.{texts, has_input, IsWithinRange, NoCommand, ReadsInput};
-ghost use Rattle.pyr_top.specs.Answers.{IsPrinted, IsClusterReport, IsGanttReport, IsTextFor};
+ghost use Rattle.pyr_top.specs.Commands.{texts, has_input, input_of, IsWithinRange, NoCommand, ReadsInput};
+ghost use Rattle.pyr_top.specs.Answers.{IsPrinted, IsClusterReport, IsBundleText, IsGanttReport, IsTextFor, check_report, IsCheckReport};
+ghost use Rattle.pyr_top.specs.Headline.{IsAccepted, RunsSafely, CompilesSafely, Promises, KeepsPromise};
 ghost use Rattle.pyr_top.specs.Answers.{Gives, Refuses, IsGiven, Delivers, Cause, IsRefused, IsRefusedAs, IsComplete};
 ghost use Rattle.pyr_top.specs.Answers.{IsReadToEnd, tells_of_input, Tells, IsTold};
 ghost use Rattle.pyr_top.specs.Responding.{IsInput, CauseOf, ReachesEnd};
@@ -14,18 +15,23 @@ ghost use Rattle.pyr_top.specs.Refusals.{status_of, line_of};
 
 use crate::cluster_report::cluster_report;
 use crate::command::read_command;
+use crate::decimals::put_number;
+use crate::load_messages::load_line;
 use crate::messages::fault_line;
 use crate::outputs_text::outputs_text;
 use crate::{Command, Refusal, Status};
+use pyr_bundletext::print_bundle;
+use pyr_compile::compile;
 use pyr_dsc::cluster;
 use pyr_gantt::report;
-use pyr_graphtext::{print_program, read_program, sequential};
+use pyr_graphtext::{Program, print_program, read_program, sequential};
+use pyr_loader::load;
 use pyr_make::make;
 use pyr_merge::merge;
 use pyr_num::Limits;
 use pyr_port::{Sink, Source, read_all, write_all};
 use pyr_rcp::order;
-use std::alloc::Global;
+use std::alloc::{AllocError, Global};
 
 /// Does what the words ask for: reads the source to its end, writes the output to `out`, and where it
 /// can't, one line on the cause to `err`. It takes no memory where the words are no command.
@@ -53,6 +59,11 @@ pub fn answer<S: Source, O: Sink, E: Sink>(
         → ¬ Rose (O.faults out.old) (O.faults out.new)
         → IsComplete (texts words.now) (S.left source.old) (O.written out.old) (O.written out.new)
         result }
+
+    // Of a bundle that was accepted or compiled: every interleaving of its processors' steps is safe
+    // and finishes with the same outputs.
+    ensures safe { result ≡ Status.Ok → KeepsPromise (texts words.now) (S.left source.old)
+        (O.written out.old) (O.written out.new) }
 
     // What becomes of the source and of `out`.
     ensures unread { ¬ ReadsInput (texts words.now) → source.new ≡ source.old }
@@ -88,6 +99,10 @@ fn refuse<E: Sink>(alloc: Global, refusal: &Refusal, err: &mut E) -> Status
             Ok(line) => tell(refusal, &line, err),
             Err(_) => tell(&Refusal::Memory, b"no memory\n", err),
         },
+        Refusal::Load(fault) => match load_line(alloc, fault) {
+            Ok(line) => tell(refusal, &line, err),
+            Err(_) => tell(&Refusal::Memory, b"no memory\n", err),
+        },
         _ => unreachable!(),
     }
 }
@@ -113,6 +128,8 @@ fn respond<S: Source, O: Sink>(
         (Rose (S.faults source.old) (S.faults source.new))
         (Rose (O.faults out.old) (O.faults out.new)) refusal) }
     ensures usage { NoCommand (texts words.now) → result ≡ Err Refusal.Usage }
+    ensures safe { OnOk result (KeepsPromise (texts words.now) (S.left source.old)
+        (O.written out.old) (O.written out.new)) }
 
     ensures unread { ¬ ReadsInput (texts words.now) → source.new ≡ source.old }
     ensures read_to_end { OnOk result
@@ -138,6 +155,8 @@ fn output_for<S: Source>(
     requires { IsWithinRange command }
     ensures ok { IfOk result (λ output.
         IsGiven command (S.left source.old) (λ given. given ≡ Ok output.items)) }
+    ensures safe { IfOk result (λ output. IfSome (input_of command (S.left source.old))
+        (λ input. Promises command input output.items)) }
     ensures refused { IfErr result
         (CauseOf command (S.left source.old) (Rose (S.faults source.old) (S.faults source.new))) }
     ensures unread { ¬ IsTrue (has_input command) → source.new ≡ source.old }
@@ -175,12 +194,15 @@ fn output_of(alloc: Global, command: Command, input: &[u8]) -> Result<Vec<u8>, R
     requires range { IsWithinRange command }
     requires fits { length input.now ≤ Limits.INPUT }
     ensures ok { IfOk result (λ output. Gives command input.now (Ok output.items)) }
+    ensures safe { IfOk result (λ output. Promises command input.now output.items) }
     ensures refused { IfErr result (Refuses command input.now) }
 {
     match command {
         Command::Seq => sequential_text(alloc, input),
         Command::Cluster => cluster_text(alloc, input),
+        Command::Compile(processors) => compiled_text(alloc, processors, input),
         Command::Gantt(processors) => gantt_text(alloc, processors, input),
+        Command::Check => checked_text(alloc, input),
         Command::Make(tasks) => made_text(alloc, tasks),
     }
 }
@@ -208,6 +230,32 @@ fn cluster_text(alloc: Global, input: &[u8]) -> Result<Vec<u8>, Refusal>
     Ok(cluster_report(alloc, &program, &clustering)?)
 }
 
+// The text of the bundle that a graph text is compiled to, for so many processors.
+fn compiled_text(alloc: Global, processors: u32, input: &[u8]) -> Result<Vec<u8>, Refusal>
+    requires least { Limits.LEAST_PROCESSORS ≤ processors }
+    requires most { processors ≤ Limits.PROCESSORS }
+    requires fits { length input.now ≤ Limits.INPUT }
+    ensures ok { IfOk result (λ output. IsTextFor (IsBundleText processors) input.now output.items) }
+    ensures safe { IfOk result (λ output. CompilesSafely input.now output.items) }
+    ensures refused { IfErr result (Refuses (Command.Compile processors) input.now) }
+{
+    let program = read_program(alloc, input)?;
+    Ok(bundle_text(alloc, processors, &program)?)
+}
+
+// The text of the bundle that a program is compiled to, for so many processors.
+fn bundle_text(alloc: Global, processors: u32, program: &Program) -> Result<Vec<u8>, AllocError>
+    requires least { Limits.LEAST_PROCESSORS ≤ processors }
+    requires most { processors ≤ Limits.PROCESSORS }
+    ensures text { IfOk result (λ text. IsBundleText processors program.now text.items) }
+    ensures safe { IfOk result (λ text. RunsSafely program.now text.items) }
+{
+    let bundle = compile(alloc, program, processors)?;
+    bundle.is_bundle();
+    let text = print_bundle(alloc, &bundle)?;
+    Ok(text)
+}
+
 // When and where the tasks of a graph text run, on so many processors.
 fn gantt_text(alloc: Global, processors: u32, input: &[u8]) -> Result<Vec<u8>, Refusal>
     requires least { Limits.LEAST_PROCESSORS ≤ processors }
@@ -222,6 +270,27 @@ fn gantt_text(alloc: Global, processors: u32, input: &[u8]) -> Result<Vec<u8>, R
     let placement = merge(alloc, graph, &clustering, processors)?;
     let plan = order(alloc, graph, &placement)?;
     Ok(report(alloc, &program, &placement, &plan)?)
+}
+
+// The report on a bundle text that the loader accepts.
+fn checked_text(alloc: Global, input: &[u8]) -> Result<Vec<u8>, Refusal>
+    requires { length input.now ≤ Limits.INPUT }
+    ensures ok { IfOk result (λ output. IsCheckReport input.now output.items) }
+    ensures safe { IfOk result (λ output. IsAccepted input.now output.items) }
+    ensures refused { IfErr result (Refuses Command.Check input.now) }
+{
+    let loaded = load(alloc, input)?;
+    Ok(check_report(alloc, loaded.steps())?)
+}
+
+// The report on an accepted bundle with complete runs of so many steps.
+fn check_report(alloc: Global, steps: u64) -> Result<Vec<u8>, AllocError>
+    ensures { IfOk result (λ text. text.items ≡ check_report steps) }
+{
+    let mut text = Vec::from_slice(alloc, b"accepted\nsteps")?;
+    put_number(&mut text, steps)?;
+    text.extend_from_slice(b"\n")?;
+    Ok(text)
 }
 
 // The text of the generated graph of so many tasks.

@@ -1,6 +1,7 @@
 use Rattle.pyr_port.specs.Causes.{Rose}
 use Rattle.pyr_top.specs.Commands.{texts}
-use Rattle.pyr_top.proofs.Answering.{complete_fine, complete_told, refused_told}
+use Rattle.pyr_top.specs.Answers.{IsReadToEnd}
+use Rattle.pyr_top.proofs.Answering.{complete_fine, complete_told, refused_told, told_at_end}
 use Rattle.pyr_top.proofs.top.answer.Goals as goal
 
 pub returns-in-Ok-clause-complete : goal.returns-in-Ok-clause-complete
@@ -20,3 +21,8 @@ returns-in-Err-clause-input_refused g c =
     (Rose (g.S.Source.faults c.args.source.now) (g.S.Source.faults c.respond.new.source))
     (Rose (g.O.Sink.faults c.args.out.now) (g.O.Sink.faults c.respond.new.out))
     c.in-Err.refusal c.refuse.ensures.told c.refuse.result c.in-Err.ensures.cause c.refuse.ensures.as_ c.refuse.ensures.tells.status
+
+pub returns-in-Err-clause-read_to_end : goal.returns-in-Err-clause-read_to_end
+returns-in-Err-clause-read_to_end g c =
+    told_at_end (IsReadToEnd (texts c.args.words.now) (g.S.Source.left c.args.source.now) (g.S.Source.left c.respond.new.source))
+    c.in-Err.refusal c.refuse.ensures.told c.refuse.result c.in-Err.ensures.refused_at_end c.refuse.ensures.as_ c.refuse.ensures.tells.status
