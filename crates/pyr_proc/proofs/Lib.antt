@@ -1,0 +1,12 @@
+pub mod EntryLemmas
+pub mod ComputingLemmas
+pub mod FittedLemmas
+pub mod Remaining
+pub mod RunningLemmas
+pub mod MakingLemmas
+pub mod RoundsLemmas
+pub mod TrafficLemmas
+pub mod EndLemmas
+pub mod FrameLemmas
+pub mod Linked
+pub mod TestLemmas

@@ -1,0 +1,22 @@
+use Rattle.std.proofs.Common.{◌∙◌, ap, Some}
+use Rattle.pyr_bundle.proofs.WellFormedLemmas.{well_formed}
+use Rattle.pyr_proc.proofs.RunningLemmas.{may_exec, exec_goes, may_send, send_goes}
+use Rattle.pyr_proc.proofs.station.Station.perform.Goals as goal
+
+pub execute-requires-clause-held : goal.execute-requires-clause-held
+execute-requires-clause-held g c = may_exec c.args.frame c.args.self.now c.in-Exec.task c.requires.running (c.requires.at ∙ ap Some c.in-Exec.is)
+
+pub send-requires-clause-well : goal.send-requires-clause-well
+send-requires-clause-well g c = well_formed c.args.self.now.bundle c.requires.running.is_bundle
+
+pub send-requires-clause-held : goal.send-requires-clause-held
+send-requires-clause-held g c = (may_send c.args.frame c.args.self.now c.in-Send.to c.in-Send.datum c.requires.running (c.requires.at ∙ ap Some c.in-Send.is)).held
+
+pub send-requires-clause-next : goal.send-requires-clause-next
+send-requires-clause-next g c = (may_send c.args.frame c.args.self.now c.in-Send.to c.in-Send.datum c.requires.running (c.requires.at ∙ ap Some c.in-Send.is)).next
+
+pub returns-in-Exec-clause-goes_on : goal.returns-in-Exec-clause-goes_on
+returns-in-Exec-clause-goes_on g c = exec_goes c.args.frame c.args.self.now c.execute.new.self c.in-Exec.task c.requires.running (c.requires.at ∙ ap Some c.in-Exec.is) c.execute.ensures
+
+pub returns-in-Send-clause-goes_on : goal.returns-in-Send-clause-goes_on
+returns-in-Send-clause-goes_on g c = send_goes c.args.frame c.args.self.now c.send.new.self c.in-Send.to c.in-Send.datum c.requires.running (c.requires.at ∙ ap Some c.in-Send.is) c.send.ensures

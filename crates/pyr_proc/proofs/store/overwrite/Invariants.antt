@@ -1,0 +1,6 @@
+use Rattle.std.proofs.Common.{◌≡◌, ◌++◌, take, drop}
+use Rattle.pyr_proc.proofs.store.overwrite.Given as goal
+
+-- the first of them are new
+abbrev pub invariant-loop-i : goal.invariant-loop-i
+invariant-loop-i l = l.words ≡ take l.i l.from ++ drop l.i l.fn.words

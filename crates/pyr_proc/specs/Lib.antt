@@ -1,0 +1,11 @@
+pub mod Rounds
+pub mod Feed
+pub mod Standing
+pub mod Seated
+pub mod Laws
+pub mod Entries
+pub mod Computing
+pub mod Fitted
+pub mod Running
+pub mod Making
+pub mod Testing

@@ -1,0 +1,4 @@
+pub mod SeatLemmas
+pub mod JoinLemmas
+pub mod HomeLemmas
+pub mod PrintLemmas

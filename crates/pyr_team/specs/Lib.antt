@@ -1,0 +1,3 @@
+pub mod Team
+pub mod Homes
+pub mod Workers
