@@ -29,7 +29,7 @@ use Rattle.pyr_ends.specs.Ends.{idle, end_for}
 use Rattle.pyr_stash.specs.Held.{parcel_in}
 use Rattle.pyr_proc.specs.Fitted.{IsWhole, AllWhole}
 use Rattle.pyr_proc.specs.Standing.{Standing}
-use Rattle.pyr_proc.specs.Running.{next_at, CanTake, TakesFrom, Remains, alone, IsRunning, GoesOn}
+use Rattle.pyr_proc.specs.Running.{next_at, moved_out, CanTake, TakesFrom, Remains, alone, IsRunning, GoesOn}
 use Rattle.pyr_proc.proofs.Remaining.{next_left, more_left, passed_left}
 
 -- the end for a peer, after a change of one
@@ -276,7 +276,7 @@ send_goes frame s u to d r at e =
 
 -- receiving a datum that is in the stash
 pub move_goes : (frame : ℕ) (s u : Standing) (from : ProcId) (d : DatumId) → IsRunning frame s → StandsAt s.bundle s.number s.local.place (Recv from d) → holds parcel_tag d.0 s.local.stash ≡ true →
-    u ≡ record s { local = worked_by (parcels s.bundle frame) (Some (Recv from d)) s.local } → GoesOn frame s u
+    u ≡ record s { local = moved_out d s.local } → GoesOn frame s u
 move_goes frame s u from d r at here e = record {
   bundle = ap (λ (v : Standing). v.bundle) e;
   number = ap (λ (v : Standing). v.number) e;
@@ -318,16 +318,13 @@ may_take frame s from d r at none = record {
     rest = subst (λ xs. Remains s.bundle s.frames frame from.0 s.number xs (end_for s.heads from.0)) f.is (r.heads from.0 known)
 
 pub take_goes : (frame : ℕ) (s u : Standing) (from : ProcId) (d : DatumId) → IsRunning frame s → StandsAt s.bundle s.number s.local.place (Recv from d) → holds parcel_tag d.0 s.local.stash ≡ false →
-    TakesFrom from.0 s u → GoesOn frame s u × (u.local.place ≡ s.local.place)
-take_goes frame s u from d r at none t = (
-  record {
-    bundle = ap (λ (v : Standing). v.bundle) t.is;
-    number = ap (λ (v : Standing). v.number) t.is;
-    frames = ap (λ (v : Standing). v.frames) t.is;
-    running = subst (IsRunning frame) (sym t.is) running;
-  },
-  ap (λ (v : Standing). v.local.place) t.is,
-)
+    TakesFrom from.0 s u → GoesOn frame s u
+take_goes frame s u from d r at none t = record {
+  bundle = ap (λ (v : Standing). v.bundle) t.is;
+  number = ap (λ (v : Standing). v.number) t.is;
+  frames = ap (λ (v : Standing). v.frames) t.is;
+  running = subst (IsRunning frame) (sym t.is) running;
+}
   where
     st : Step frame s r
     st = step_at frame s r (Recv from d) at
@@ -349,3 +346,7 @@ take_goes frame s u from d r at none t = (
 
     running : IsRunning frame (record s { local = stashed s.local t.parcel; heads = set s.heads from.0 (passed_on (end_for s.heads from.0)) })
     running = taken_on frame s r st from.0 t.parcel f.rest there known (act_at frame s (Recv from d) (Take from.0) at (ap (λ c. cond c Internal (Take from.0)) none)) (f.is ∙ ap (λ x. x ∷ f.rest) same)
+
+-- a take leaves the place
+pub take_place : (peer : ℕ) (s u : Standing) → TakesFrom peer s u → u.local.place ≡ s.local.place
+take_place peer s u t = ap (λ (v : Standing). v.local.place) t.is

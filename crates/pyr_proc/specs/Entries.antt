@@ -4,7 +4,7 @@ use Rattle.pyr_num.specs.declared.parcel.Parcel.{Parcel}
 use Rattle.pyr_bundle.specs.Parts.{datum_id}
 use Rattle.pyr_proc.specs.declared.entry.Entry.{Entry}
 
--- the parcels of these entries, which are of the data from `from` on: of those whose words are there
+-- the parcels of these entries, which are of the data from `from` on: of those that are held
 abbrev pub parcels_from : ℕ → List Entry → List Parcel
 parcels_from from [] = []
 parcels_from from (e ∷ entries) =

@@ -46,7 +46,8 @@ AreListed b ds n entries =
     → size_at entries (slice_index_or ds i none).0 ≡ length_of b (slice_index_or ds i none).0
 
 -- lists for the first n of these data were put in place
-pub record PreparesFirst (b : Parts) (ds : List DatumId) (n : ℕ) (old new : List Entry) : Type 0 where
+pub record PreparesFirst (b : Parts) (ds : List DatumId) (n : ℕ) (old new : List Entry)
+    : Type 0 where
   pub count : length new ≡ length old
   pub unheld : AreUnheld old → AreUnheld new
   pub sizes : KeepsSizes b old new

@@ -1,13 +1,15 @@
 -- A processor on its way through its local run. No public clause cites this.
-use Rattle.std.specs.Prelude.{◌≡◌, ℕ, suc, ◌<◌, false, List, [], ◌++◌, length, Option, Some, slice_get, slice_set}
+use Rattle.std.specs.Prelude.{◌≡◌, ℕ, suc, ◌+◌, ◌<◌, false, List, [], ◌++◌, length, Option, Some, slice_get, slice_set}
+use Rattle.pyr_num.specs.declared.ids.DatumId.{DatumId}
 use Rattle.pyr_num.specs.declared.parcel.Parcel.{Parcel}
 use Rattle.pyr_net.specs.Alone.{Alone, local_sent}
 use Rattle.pyr_bundle.specs.Parts.{Parts, IsBundle, processor_count}
-use Rattle.pyr_machine.specs.Machine.{LocalState, holds, stashed, capacity_of}
+use Rattle.pyr_machine.specs.Machine.{LocalState, holds, stored, without, stashed, capacity_of}
 use Rattle.pyr_machine.specs.Parcels.{parcel_tag, parcel_of, parcels, state_rules}
 use Rattle.pyr_machine.specs.Local.{LeadsTo}
 use Rattle.pyr_wire.specs.End.{End, end_at, passed_on}
 use Rattle.pyr_ends.specs.Ends.{end_for}
+use Rattle.pyr_stash.specs.Held.{parcel_in}
 use Rattle.pyr_proc.specs.Feed.{feed_of}
 use Rattle.pyr_proc.specs.Fitted.{IsWhole, AllWhole}
 use Rattle.pyr_proc.specs.Standing.{Standing}
@@ -22,6 +24,15 @@ abbrev pub CanTake : Standing → ℕ → Type 0
 CanTake s peer =
     (x : Parcel) → next_at (end_for s.heads peer) ≡ Some x
     → IsWhole s.bundle x × (holds parcel_tag x.tag.0 s.local.stash ≡ false)
+
+-- the parcel of a datum went from the stash to the store, and the place went on
+abbrev pub moved_out : DatumId → LocalState Parcel → LocalState Parcel
+moved_out d l =
+    record {
+      place = l.place + 1;
+      store = stored parcel_tag (parcel_in d l.stash) l.store;
+      stash = without parcel_tag d.0 l.stash;
+    }
 
 -- the next parcel of a peer went into the stash
 pub record TakesFrom (peer : ℕ) (s t : Standing) : Type 0 where
@@ -64,7 +75,8 @@ pub record IsRunning (frame : ℕ) (s : Standing) : Type 0 where
       → Remains s.bundle s.frames frame q s.number (inbox q) (end_for s.heads q)
   pub tails : (q : ℕ) → q < processor_count s.bundle
       → Remains s.bundle s.frames frame s.number q
-      (local_sent (state_rules s.bundle frame) s.number left (alone s.local inbox) q) (end_for s.tails q)
+      (local_sent (state_rules s.bundle frame) s.number left (alone s.local inbox) q)
+      (end_for s.tails q)
   pub whole : (q : ℕ) → q < processor_count s.bundle → AllWhole s.bundle (inbox q)
 
 -- it goes on as the same processor
@@ -73,3 +85,7 @@ pub record GoesOn (frame : ℕ) (s t : Standing) : Type 0 where
   pub number : t.number ≡ s.number
   pub frames : t.frames ≡ s.frames
   pub running : IsRunning frame t
+
+-- in whatever frame it is on its way, it goes on
+abbrev pub KeepsRunning : Standing → Standing → Type 0
+KeepsRunning s t = (frame : ℕ) → IsRunning frame s → GoesOn frame s t

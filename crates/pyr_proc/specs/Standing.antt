@@ -5,8 +5,8 @@ use Rattle.pyr_bundle.specs.Parts.{Parts}
 use Rattle.pyr_machine.specs.Machine.{LocalState}
 use Rattle.pyr_wire.specs.End.{End}
 
--- the bundle that it was made for, its number, the frames that it was made for, its place, store and
--- stash, and the ends of its wires
+-- the bundle that it was made for, its number, the frames that it was made for, its place, store
+-- and stash, and the ends of its wires
 pub record Standing : Type 0 where
   pub bundle : Parts
   pub number : ℕ

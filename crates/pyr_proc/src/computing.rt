@@ -9,7 +9,7 @@ ghost use Rattle.pyr_machine.specs.Machine.{holds, all_stored};
 ghost use Rattle.pyr_machine.specs.Parcels.{parcel_tag, words_in, paired, parcels};
 ghost use Rattle.pyr_machine.specs.Station.{AllBelow};
 ghost use Rattle.pyr_machine.specs.State.{numbers, task_slots, task_words};
-ghost use Rattle.pyr_proc.specs.Entries.{store_of, entry, entry_at};
+ghost use Rattle.pyr_proc.specs.Entries.{store_of, entry};
 ghost use Rattle.pyr_proc.specs.Computing.{size_at, AreSized, CanWrite, FillsIn};
 
 use crate::entry::Entry;
@@ -42,8 +42,8 @@ fn open(bundle: &Bundle, writes: &[DatumId], cells: &mut Cells)
     requires known { AllBelow (datum_count bundle.now) writes.now }
     requires empty { cells.old.outputs ≡ [] }
     requires slots { length cells.old.inputs + length writes.now ≤ cells.old.slot_room }
-    requires words { word_count cells.old.inputs + sum_by (length_of bundle.now) (numbers writes.now)
-        ≤ cells.old.word_room }
+    requires words { word_count cells.old.inputs
+        + sum_by (length_of bundle.now) (numbers writes.now) ≤ cells.old.word_room }
     ensures { cells.new ≡ record cells.old { outputs = zeros bundle.now (numbers writes.now) } }
 {
     bundle.well_formed();
@@ -77,8 +77,8 @@ fn unload(writes: &[DatumId], cells: &Cells, entries: &mut [Entry])
     }
 }
 
-/// Executes a task on what it reads in the store, and puts what it makes into the store. It takes no
-/// memory.
+/// Executes a task on what it reads in the store, and puts what it makes into the store. It takes
+/// no memory.
 pub fn compute(bundle: &Bundle, frame: u64, t: TaskId, entries: &mut [Entry], cells: &mut Cells)
     requires there { t.0 < task_count bundle.now }
     requires sized { AreSized bundle.now entries.old }

@@ -1,5 +1,5 @@
 // The processors of a bundle at their start, with all memory of their runs.
-ghost use Rattle.std.specs.Prelude.{◌≡◌, ℕ, ◌<◌, ◌≤◌, [], length, IfOk, OnOk};
+ghost use Rattle.std.specs.Prelude.{◌≡◌, ◌<◌, ◌≤◌, [], length, IfOk, OnOk};
 ghost use Rattle.pyr_num.specs.declared.limits.TheConstants.Limits.{INSTRUCTIONS};
 ghost use Rattle.pyr_bundle.specs.Parts.{processor_count, task_count, datum_count, task_at, length_of};
 ghost use Rattle.pyr_machine.specs.Machine.{new_local};
@@ -56,7 +56,8 @@ fn prepare(
 ) -> Result<(), AllocError>
     requires there { t.0 < task_count bundle.now }
     requires count { length entries.old ≡ datum_count bundle.now }
-    ensures { OnOk result (Prepares bundle.now (task_at bundle.now t.0).writes entries.old entries.new) }
+    ensures { OnOk result
+        (Prepares bundle.now (task_at bundle.now t.0).writes entries.old entries.new) }
 {
     bundle.well_formed();
     let task = bundle.task(t);
@@ -78,7 +79,8 @@ fn prepare_for(
 ) -> Result<(), AllocError>
     requires known { IsKnown bundle.now instr }
     requires count { length entries.old ≡ datum_count bundle.now }
-    ensures { OnOk result (Prepares bundle.now (written_at bundle.now instr) entries.old entries.new) }
+    ensures { OnOk result
+        (Prepares bundle.now (written_at bundle.now instr) entries.old entries.new) }
 {
     match instr {
         Instr::Exec { task } => prepare(alloc, bundle, task, entries),

@@ -57,9 +57,9 @@ impl<'a> Processor<'a> {
         Ok(processors)
     }
 
-    /// Runs a frame. It may wait for the other processors. When it returns, it has sent and received
-    /// exactly its traffic of the frame, its stash is empty, and it stands at the end of its local
-    /// run. It takes no memory, and it can't fail.
+    /// Runs a frame. It may wait for the other processors. When it returns, it has sent and
+    /// received exactly its traffic of the frame, its stash is empty, and it stands at the end of
+    /// its local run. It takes no memory, and it can't fail.
     pub fn run<P: Pace, R: Wait>(&mut self, rt: &R, frame: u64, pace: &P)
         requires next { self.old.ran ≡ frame }
         requires left { frame < self.old.frames }

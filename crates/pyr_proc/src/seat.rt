@@ -7,7 +7,8 @@ use std::marker::Model;
 use std::sync::Wait;
 
 /// All of a processor but the bundle that it borrows. A thread can hand it back with what is known
-/// of it, which it can't where a value borrows. In contracts it has the bundle that it was made for.
+/// of it, which it can't where a value borrows. In contracts it has the bundle that it was made
+/// for.
 #[derive(Drop)]
 pub struct Seat {
     pub(crate) station: Station,
@@ -34,9 +35,9 @@ impl Seat {
     ghost use Rattle.pyr_machine.specs.Parcels.{parcel_tag, words_in};
     ghost use Rattle.pyr_proc.specs.Seated.{HasRun};
 
-    /// Runs a frame, over the bundle that it was made for. It may wait for the other processors. When
-    /// it returns, it has sent and received exactly its traffic of the frame, its stash is empty, and
-    /// it stands at the end of its local run. It takes no memory, and it can't fail.
+    /// Runs a frame, over the bundle that it was made for. It may wait for the other processors.
+    /// When it returns, it has sent and received exactly its traffic of the frame, its stash is
+    /// empty, and it stands at the end of its local run. It takes no memory, and it can't fail.
     pub fn run<P: Pace, R: Wait>(&mut self, rt: &R, loaded: &Loaded, frame: u64, pace: &P)
         requires bundle { self.old.bundle ≡ loaded.now.bundle }
         requires next { self.old.ran ≡ frame }

@@ -1,5 +1,6 @@
 // What a processor keeps, and the steps of its local run.
-ghost use Rattle.std.specs.Prelude.{◌≡◌, ◌+◌, ◌<◌, true, false, length, slice_get, slice_set, Some, None, is_some, IfSome};
+ghost use Rattle.std.specs.Prelude.{◌≡◌, ℕ, ◌+◌, ◌<◌, true, false, length, slice_get, slice_set};
+ghost use Rattle.std.specs.Prelude.{Some, None, is_some, IfSome};
 ghost use Rattle.std.specs.List.{list_all};
 ghost use Rattle.pyr_num.specs.declared.limits.TheConstants.Limits.{INSTRUCTIONS};
 ghost use Rattle.pyr_bundle.specs.Parts.{processor_count, datum_count, code_at, task_at};
@@ -11,7 +12,7 @@ ghost use Rattle.pyr_machine.specs.Counts.{all_sends};
 ghost use Rattle.pyr_wire.specs.End.{passed_on};
 ghost use Rattle.pyr_ends.specs.Ends.{end_for};
 ghost use Rattle.pyr_stash.specs.Held.{parcel_in};
-ghost use Rattle.pyr_proc.specs.Running.{next_at, CanTake, TakesFrom, IsRunning, GoesOn};
+ghost use Rattle.pyr_proc.specs.Running.{next_at, moved_out, CanTake, TakesFrom, IsRunning, GoesOn, KeepsRunning};
 
 use crate::Pace;
 use crate::computing::compute;
@@ -26,8 +27,8 @@ use std::snapshot::Snapshot;
 use std::sync::Wait;
 
 /// The place, the store and the stash of a processor, the ends of its wires, and the memory of its
-/// run: a list of words for each datum that it writes and for each of its sends, and cells. It keeps
-/// no bundle. In contracts it has the one that it was made for.
+/// run: a list of words for each datum that it writes and for each of its sends, and cells. It
+/// keeps no bundle: in contracts it has the one that it was made for.
 #[derive(Drop)]
 pub struct Station {
     pub bundle: Snapshot<Bundle>,
@@ -92,12 +93,12 @@ impl Station {
     }
 
     // Moves the parcel of a datum from the stash to the store, and goes on, if it is there.
-    fn move_out(&mut self, from: ProcId, datum: DatumId, frame: u64) -> bool
+    fn move_out(&mut self, datum: DatumId) -> bool
         requires known { datum.0 < datum_count self.old.bundle }
         requires short { self.old.local.place < INSTRUCTIONS }
         ensures there { result ≡ holds parcel_tag datum.0 self.old.local.stash }
         ensures moved { result ≡ true → self.new ≡ record self.old {
-          local = worked_by (parcels self.old.bundle frame) (Some (Recv from datum)) self.old.local;
+          local = moved_out datum self.old.local;
         } }
         ensures kept { result ≡ false → self.new ≡ self.old }
     {
@@ -111,14 +112,15 @@ impl Station {
 
     // Receives a datum: takes parcels of its sender into the stash until the datum's is there, and
     // moves that one to the store.
-    fn receive<R: Wait>(&mut self, rt: &R, from: ProcId, datum: DatumId, frame: u64)
-        requires running { IsRunning frame self.old }
-        requires at { StandsAt self.old.bundle self.old.number self.old.local.place (Recv from datum) }
-        ensures goes_on { GoesOn frame self.old self.new }
+    fn receive<R: Wait>(&mut self, rt: &R, from: ProcId, datum: DatumId)
+        requires running { (frame : ℕ) × IsRunning frame self.old }
+        requires at { StandsAt self.old.bundle self.old.number self.old.local.place
+            (Recv from datum) }
+        ensures goes_on { KeepsRunning self.old self.new }
         ensures place { self.new.local.place ≡ self.old.local.place + 1 }
     {
         for _ in rt.forever() {
-            if self.move_out(from, datum, frame) {
+            if self.move_out(datum) {
                 return;
             }
             self.take_in(rt, from);
@@ -145,7 +147,8 @@ impl Station {
     // this send, and move from there.
     fn send<R: Wait>(&mut self, rt: &R, to: ProcId, datum: DatumId)
         requires well { IsWellFormed self.old.bundle }
-        requires at { StandsAt self.old.bundle self.old.number self.old.local.place (Send to datum) }
+        requires at { StandsAt self.old.bundle self.old.number self.old.local.place
+            (Send to datum) }
         requires held { holds parcel_tag datum.0 self.old.local.store ≡ true }
         requires next { next_at (end_for self.old.tails to.0)
             ≡ Some (parcel_in datum self.old.local.store) }
@@ -179,7 +182,7 @@ impl Station {
         ensures place { self.new.local.place ≡ self.old.local.place + 1 }
     {
         match instr {
-            Instr::Recv { from, datum } => self.receive(rt, from, datum, frame),
+            Instr::Recv { from, datum } => self.receive(rt, from, datum),
             Instr::Exec { task } => {
                 pace.before_task(self.number, task);
                 self.execute(bundle, frame, task);

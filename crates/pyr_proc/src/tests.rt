@@ -164,7 +164,8 @@ fn loaded(alloc: Global, lines: &[&[u8]]) -> Result<Loaded, Fail> {
 // The seats of the first two of these processors.
 fn two_of(loaded: &Loaded, processors: Vec<Processor<'_>>) -> Option<(Seat, Seat)>
     requires { AreFresh loaded.now.bundle 1 processors.items }
-    ensures { IfSome result (λ seats. CanRun loaded.now.bundle seats.0 × CanRun loaded.now.bundle seats.1) }
+    ensures { IfSome result (λ seats. CanRun loaded.now.bundle seats.0
+        × CanRun loaded.now.bundle seats.1) }
 {
     let mut processors = processors.into_iter();
     let first = processors.next()?;

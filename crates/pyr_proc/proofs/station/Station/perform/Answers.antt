@@ -20,3 +20,9 @@ returns-in-Exec-clause-goes_on g c = exec_goes c.args.frame c.args.self.now c.ex
 
 pub returns-in-Send-clause-goes_on : goal.returns-in-Send-clause-goes_on
 returns-in-Send-clause-goes_on g c = send_goes c.args.frame c.args.self.now c.send.new.self c.in-Send.to c.in-Send.datum c.requires.running (c.requires.at ∙ ap Some c.in-Send.is) c.send.ensures
+
+pub receive-requires-clause-running : goal.receive-requires-clause-running
+receive-requires-clause-running g c = (c.args.frame, c.requires.running)
+
+pub returns-in-Recv-clause-goes_on : goal.returns-in-Recv-clause-goes_on
+returns-in-Recv-clause-goes_on g c = c.receive.ensures.goes_on c.args.frame c.requires.running
