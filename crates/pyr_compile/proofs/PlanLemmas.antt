@@ -1,17 +1,15 @@
 -- The run of a plan is complete.
-use Rattle.std.proofs.Common.{◌≡◌, ℕ, ◌+◌, ◌<◌, ◌≤◌, ◌==◌, ◌||◌, Bool, true, false, cond, List, [], ◌∷◌, length, map, All, inl, inr, refl, sym, ap, ◌∙◌, subst, arith}
+use Rattle.std.proofs.Common.{◌≡◌, ℕ, ◌+◌, ◌<◌, ◌≤◌, ◌==◌, ◌||◌, Bool, true, false, cond, List, [], ◌∷◌, length, map, inl, inr, refl, sym, ap, ◌∙◌, subst, arith}
 use Rattle.std.specs.Prelude.{nat_eq, slice_index}
 use Rattle.std.specs.List.{list_any}
 use Rattle.std.proofs.lemmas.Bool.{cases_lt, cases_eq, eq-eqb, ne_eqb}
 use Rattle.std.proofs.lemmas.List.{get_or_past}
 use Rattle.pyr_num.specs.declared.ids.DatumId.{DatumId}
-use Rattle.pyr_num.specs.declared.ids.ProcId.{ProcId}
 use Rattle.pyr_seq.specs.Walk.{IsTopological}
 use Rattle.pyr_graph.specs.declared.placement.Placement.{Placement}
 use Rattle.pyr_graph.specs.declared.plan.Plan.{Plan}
 use Rattle.pyr_graph.specs.System.{System, task_count, task_numbers, IsEdge}
 use Rattle.pyr_graph.specs.WholeGraph.{IsGraph}
-use Rattle.pyr_graph.specs.declared.clustering.Clustering.{Clustering}
 use Rattle.pyr_graph.specs.Clusters.{cluster_numbers}
 use Rattle.pyr_dsc.specs.Run.{IsRun}
 use Rattle.pyr_merge.specs.Merge.{IsMerged}
@@ -31,6 +29,7 @@ use Rattle.pyr_emit.specs.Emission.{IsEmission, reads_it, writes_it, code_on}
 use Rattle.pyr_emit.proofs.CountLemmas.{home_below, task_below}
 use Rattle.pyr_emit.proofs.EmittedLemmas.{processors_are, code_is}
 use Rattle.pyr_emit.proofs.MeaningLemmas.{same_reads, same_writes}
+use Rattle.pyr_compile.specs.Compiled.{IsPlanned}
 use Rattle.pyr_compile.specs.PlanRun.{plan_schedule, PlanCompletes, RunsByItsPlan, PlansComplete}
 use Rattle.pyr_compile.proofs.Events.{Event, project, scheduled, all_used}
 use Rattle.pyr_compile.proofs.Blocks.{events_below, project_all, no_code, turns_are}
@@ -133,32 +132,26 @@ module _ (p : ProgramParts) (placement : Placement) (plan : Plan) (b : Parts) (p
 pub plans_complete : PlansComplete
 plans_complete p placement plan b program graph placed ordered is = plan_completes p placement plan b program graph placed ordered is
 
-pub placed_by : (g : System) (placement : Placement) (processors : ℕ) → placement.processors ≡ processors → length placement.of ≡ task_count g → All (λ p. p.0 < processors) placement.of → IsPlaced g placement
-placed_by g placement processors count full inside =
-    record { full = full; below = subst (λ n. All (λ (p : ProcId). p.0 < n) placement.of) (sym count) inside }
-
--- what is told of a compiled bundle, where its parts were made one after another
-pub runs_by_plan : (p : ProgramParts) (processors : ℕ) (g : System) (clustering : Clustering) (placement : Placement) (plan : Plan) (b : Parts) → g ≡ p.graph → IsProgram p → IsGraph g
-    → IsRun g clustering → IsMerged g (cluster_numbers clustering.clusters) processors placement → IsPlaced g placement → IsOrdered g placement plan → IsEmission p placement plan (raw_of b)
-    → RunsByItsPlan p processors b
-runs_by_plan p processors g clustering placement plan b same program graph run merged placed ordered emission =
+-- what is told of a compiled bundle, where its plan was made first
+pub runs_by_plan : (p : ProgramParts) (processors : ℕ) (g : System) (placement : Placement) (plan : Plan) (b : Parts) → g ≡ p.graph → IsPlanned g processors placement plan
+    → IsEmission p placement plan (raw_of b) → PlanCompletes p placement plan b → RunsByItsPlan p processors b
+runs_by_plan p processors g placement plan b same planned emission complete =
     record {
       compiled = record {
-        clustering = clustering;
-        run = subst (λ (s : System). IsRun s clustering) same run;
+        clustering = planned.clustering;
+        run = subst (λ (s : System). IsRun s planned.clustering) same planned.run;
         placement = placement;
-        merged = subst (λ (s : System). IsMerged s (cluster_numbers clustering.clusters) processors placement) same merged;
+        merged = subst (λ (s : System). IsMerged s (cluster_numbers planned.clustering.clusters) processors placement) same planned.merged;
         plan = plan;
-        ordered = subst (λ (s : System). IsOrdered s placement plan) same ordered;
+        ordered = subst (λ (s : System). IsOrdered s placement plan) same planned.ordered;
         emission = emission;
       };
-      complete = plan_completes p placement plan b program (subst IsGraph same graph) (subst (λ (s : System). IsPlaced s placement) same placed)
-          (subst (λ (s : System). IsOrdered s placement plan) same ordered) emission;
+      complete = complete;
     }
 
--- a bundle with such a run is good
-pub good_by_plan : (p : ProgramParts) (processors : ℕ) (b : Parts) → IsBundle b → RunsByItsPlan p processors b → IsGood b (step_count b)
-good_by_plan p processors b bundle by_plan =
-    let most = run_le (tags b) b start by_plan.complete.run (well_formed b bundle) by_plan.complete.is_run in
-    let least = complete_steps (tags b) b by_plan.complete.run by_plan.complete.is_run by_plan.complete.done in
-    record { run = by_plan.complete.run; is_run = by_plan.complete.is_run; count = omega (arith, most, least, start_left DatumId b); done = by_plan.complete.done }
+-- a bundle whose plan has a complete run is good
+pub good_by_plan : (p : ProgramParts) (placement : Placement) (plan : Plan) (b : Parts) → IsBundle b → PlanCompletes p placement plan b → IsGood b (step_count b)
+good_by_plan p placement plan b bundle complete =
+    let most = run_le (tags b) b start complete.run (well_formed b bundle) complete.is_run in
+    let least = complete_steps (tags b) b complete.run complete.is_run complete.done in
+    record { run = complete.run; is_run = complete.is_run; count = omega (arith, most, least, start_left DatumId b); done = complete.done }

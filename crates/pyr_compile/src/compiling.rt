@@ -1,23 +1,64 @@
 // The way from a program to its bundle.
 
 ghost use Rattle.std.specs.Prelude.{◌≡◌, ◌≤◌, IfOk};
+ghost use Rattle.pyr_rcp.specs.Order.{IsPlaced, IsOrdered};
 ghost use Rattle.pyr_bundle.specs.Raw.{IsWithinLimits};
 ghost use Rattle.pyr_bundle.specs.Parts.{raw_of};
 ghost use Rattle.pyr_bundle.specs.Faults.{IsLawful};
 ghost use Rattle.pyr_machine.specs.Counts.{step_count};
 ghost use Rattle.pyr_machine.specs.Good.{IsGood};
+ghost use Rattle.pyr_emit.specs.Emission.{IsEmission};
 ghost use Rattle.pyr_emit.specs.Meaning.{MeansTheSame};
 ghost use Rattle.pyr_compile.specs.Compiled.{IsCompiled};
-ghost use Rattle.pyr_compile.specs.PlanRun.{RunsByItsPlan};
+ghost use Rattle.pyr_compile.specs.PlanRun.{PlanCompletes, RunsByItsPlan};
 
+use crate::planning::{Planned, plan};
 use pyr_bundle::Bundle;
-use pyr_dsc::cluster;
 use pyr_emit::emit;
 use pyr_graphtext::Program;
-use pyr_merge::merge;
 use pyr_num::Limits;
-use pyr_rcp::order;
 use std::alloc::{AllocError, Global};
+
+/// Compiles a program by its plan: each processor gets the blocks of its tasks, in the plan's order.
+/// Each channel has room for all its sends.
+///
+/// The placement has one processor for each task of the program, each below its count, which is from
+/// 1 to `Limits::PROCESSORS`, and the plan is the one of `pyr_rcp::order` on it: so it is where
+/// `plan` gave both.
+///
+/// The error says that memory ran out.
+pub fn compile_plan(
+    alloc: Global,
+    program: &Program,
+    planned: &Planned,
+) -> Result<Bundle, AllocError>
+    requires placed { IsPlaced program.now.graph planned.now.placement }
+    requires ordered { IsOrdered program.now.graph planned.now.placement planned.now.plan }
+    requires some { 1 ≤ planned.now.placement.processors }
+    requires few { planned.now.placement.processors ≤ Limits.PROCESSORS }
+
+    // It is exactly the bundle of this plan.
+    ensures emission { IfOk result (λ bundle.
+        IsEmission program.now planned.now.placement planned.now.plan (raw_of bundle)) }
+
+    // It keeps every law of bundles, and is within the limits.
+    ensures lawful { IfOk result (λ bundle. IsLawful (raw_of bundle)) }
+    ensures limits { IfOk result (λ bundle. IsWithinLimits (raw_of bundle)) }
+
+    // The run that follows the plan block by block is complete. So the bundle is good, and each such
+    // run has as many steps as there are instructions and sends.
+    ensures run { IfOk result
+        (PlanCompletes program.now planned.now.placement planned.now.plan) }
+    ensures good { IfOk result (λ bundle. IsGood bundle (step_count bundle)) }
+
+    // In every frame every datum has the value that it has in the program.
+    ensures meaning { IfOk result (MeansTheSame program.now) }
+{
+    program.graph().well_formed();
+    let bundle = emit(alloc, program, &planned.placement, &planned.plan)?;
+    bundle.is_bundle();
+    Ok(bundle)
+}
 
 /// Compiles a program for this many processors, from 1 to `Limits::PROCESSORS`, after PYRROS (Yang and
 /// Gerasoulis, 1992): the tasks are clustered by dominant sequences, the clusters go to processors by
@@ -48,12 +89,7 @@ pub fn compile(alloc: Global, program: &Program, processors: u32) -> Result<Bund
     // In every frame every datum has the value that it has in the program.
     ensures meaning { IfOk result (MeansTheSame program.now) }
 {
-    let graph = program.graph();
-    graph.well_formed();
-    let clustering = cluster(alloc, graph)?;
-    let placement = merge(alloc, graph, &clustering, processors)?;
-    let plan = order(alloc, graph, &placement)?;
-    let bundle = emit(alloc, program, &placement, &plan)?;
-    bundle.is_bundle();
+    let planned = plan(alloc, program.graph(), processors)?;
+    let bundle = compile_plan(alloc, program, &planned)?;
     Ok(bundle)
 }

@@ -5,9 +5,11 @@
 
 mod compiling;
 mod laws;
+mod planning;
 
-pub use compiling::compile;
+pub use compiling::{compile, compile_plan};
 pub use laws::plans_complete;
+pub use planning::{Planned, plan};
 
 #[cfg(test)]
 mod tests;

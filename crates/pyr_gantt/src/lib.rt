@@ -9,6 +9,7 @@ mod time;
 
 pub use bars::{BUSY, COLUMNS, IDLE};
 pub use chart::report;
+pub use time::time_of;
 
 #[cfg(test)]
 mod tests;

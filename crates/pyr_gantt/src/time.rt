@@ -6,7 +6,7 @@ ghost use Rattle.pyr_gantt.specs.Gantt.{time_of};
 use pyr_graph::Plan;
 
 /// The greatest finish of a plan, in abstract time units, or 0 where it has no task.
-pub(crate) fn time_of(plan: &Plan) -> u64
+pub fn time_of(plan: &Plan) -> u64
     ensures { result ≡ time_of plan.now }
 {
     let mut time: u64 = 0;
