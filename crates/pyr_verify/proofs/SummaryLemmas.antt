@@ -1,0 +1,83 @@
+-- What is found of a generated program is its summary.
+use Rattle.std.proofs.Common.{◌≡◌, ℕ, List, [], unwrap_or, Option, sym, ap, subst, ◌∙◌}
+use Rattle.pyr_seq.specs.Sequential.{outputs_of, value_of}
+use Rattle.pyr_graph.specs.declared.placement.Placement.{Placement}
+use Rattle.pyr_graph.specs.declared.plan.Plan.{Plan}
+use Rattle.pyr_graph.specs.System.{System, datum_numbers}
+use Rattle.pyr_graphtext.specs.Program.{ProgramParts, tasks_of}
+use Rattle.pyr_gantt.specs.Gantt.{time_of}
+use Rattle.pyr_make.specs.Layered.{layered_program}
+use Rattle.pyr_bundle.specs.Parts.{Parts, raw_of}
+use Rattle.pyr_bundle.specs.Values.{IsOrderOf, printed, tasks_of as bundle_tasks}
+use Rattle.pyr_emit.specs.Emission.{IsEmission}
+use Rattle.pyr_emit.specs.Meaning.{MeansTheSame}
+use Rattle.pyr_machine.specs.Counts.{step_count}
+use Rattle.pyr_compile.specs.Compiled.{IsPlanned}
+use Rattle.pyr_loader.specs.Safe.{IsSafe}
+use Rattle.pyr_verify.specs.declared.loading.LoadedPlan.{LoadedPlan}
+use Rattle.pyr_verify.specs.declared.summary.Summary.{Summary}
+use Rattle.pyr_verify.specs.Summary.{message_count, wrapping_sum, IsSummary, HasLoadedText, IsVerified}
+use Rattle.pyr_verify.specs.LoadedPlan.{IsLoadedPlan}
+use Rattle.pyr_verify.proofs.OneSummary.{same_values}
+
+-- what a bundle prints is what its program prints
+pub printed_is : (p : ProgramParts) (b : Parts) (order : List ℕ) → MeansTheSame p b → (raw_of b).prints ≡ datum_numbers p.graph.prints
+    → printed b 0 order ≡ outputs_of (tasks_of p 0) order (datum_numbers p.graph.prints)
+printed_is p b order means prints =
+    same_values (value_of (bundle_tasks b 0) order) (value_of (tasks_of p 0) order) (λ d. ap (λ (o : Option (List ℕ)). unwrap_or o []) (means.same 0 order d)) (raw_of b).prints
+    ∙ ap (outputs_of (tasks_of p 0) order) prints
+
+-- the loaded bundle is that of the plan
+pub is_loaded_plan : (p : ProgramParts) (processors : ℕ) (g : System) (placement : Placement) (plan : Plan) (b : Parts) (found : LoadedPlan) → g ≡ p.graph → IsPlanned g processors placement plan
+    → IsEmission p placement plan (raw_of b) → MeansTheSame p b → found.time ≡ time_of plan → found.loaded.bundle ≡ b → found.loaded.steps ≡ step_count b → HasLoadedText found.loaded
+    → IsSafe found.loaded.bundle found.loaded.steps → IsLoadedPlan p processors found
+is_loaded_plan p processors g placement plan b found graph planned_of emission means time same steps text safe = record {
+  compiled = record {
+    clustering = planned.clustering;
+    run = planned.run;
+    placement = placement;
+    merged = planned.merged;
+    plan = plan;
+    ordered = planned.ordered;
+    emission = subst (λ (c : Parts). IsEmission p placement plan (raw_of c)) (sym same) emission;
+  };
+  time = time;
+  text = text;
+  steps = steps ∙ ap step_count (sym same);
+  safe = safe;
+  means = subst (MeansTheSame p) (sym same) means;
+}
+  where
+    planned : IsPlanned p.graph processors placement plan
+    planned = subst (λ (s : System). IsPlanned s processors placement plan) graph planned_of
+
+module _ (tasks processors : ℕ) (p : ProgramParts) (found : LoadedPlan) (program : p ≡ layered_program tasks) (loaded : IsLoadedPlan p processors found) where
+  of_made : IsLoadedPlan (layered_program tasks) processors found
+  of_made = subst (λ (q : ProgramParts). IsLoadedPlan q processors found) program loaded
+
+  pub is_summary : (s : Summary) → s.tasks ≡ tasks → s.processors ≡ processors → s.messages ≡ message_count found.loaded.bundle → s.steps ≡ found.loaded.steps → s.time ≡ found.time
+      → ((order : List ℕ) → IsOrderOf found.loaded.bundle 0 order → s.sum ≡ wrapping_sum (printed found.loaded.bundle 0 order)) → IsSummary tasks processors s
+  is_summary s of_tasks on_processors messages steps time sum =
+      let (order, top) = of_made.safe.order 0 in
+      record {
+        of_tasks = of_tasks;
+        on_processors = on_processors;
+        bundle = found.loaded.bundle;
+        compiled = of_made.compiled;
+        messages = messages;
+        steps = steps ∙ of_made.steps;
+        time = time ∙ of_made.time;
+        order = order;
+        ordered = (of_made.means.orders 0 order).1 top;
+        sum = sum order top ∙ ap wrapping_sum (printed_is (layered_program tasks) found.loaded.bundle order of_made.means of_made.compiled.emission.prints);
+      }
+
+  pub is_verified : (s : Summary) → s.steps ≡ found.loaded.steps → IsVerified tasks processors s
+  is_verified s steps = record {
+    loaded = found.loaded;
+    text = of_made.text;
+    compiled = of_made.compiled;
+    steps = steps;
+    safe = of_made.safe;
+    means = of_made.means;
+  }
