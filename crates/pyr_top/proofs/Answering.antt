@@ -1,19 +1,22 @@
 -- How a call ends by the defined answer.
-use Rattle.std.proofs.Common.{◌≡◌, ◌≢◌, ◌⊎◌, Bool, true, false, ◌<◌, ◌≤◌, ◌+◌, [], ◌++◌, inl, inr, if◌then◌else◌, ℕ, List, Option, Some, None, Result, Ok, Err, IfSome, IsOkAnd, IsTrue, length, refl, sym, ap, subst, ◌∙◌, arith}
+use Rattle.std.proofs.Common.{◌≡◌, ◌≢◌, ◌⊎◌, Bool, true, false, ◌<◌, ◌≤◌, ◌+◌, [], ◌++◌, inl, inr, if◌then◌else◌, ℕ, List, Option, Some, None, Result, Ok, Err, IfSome, IfOk, IsOkAnd, IsTrue, length, refl, sym, ap, subst, ◌∙◌, arith}
 use Rattle.std.proofs.lemmas.List.{append-nil, length-append}
 use Rattle.std.specs.Io.KnownBytes.{Appends, Consumes, IsAtEnd}
+use Rattle.pyr_port.specs.Giving.{AppendsPrefix}
 use Rattle.pyr_port.specs.Taking.{Loses}
 use Rattle.pyr_num.specs.declared.limits.TheConstants.Limits.{INPUT}
 use Rattle.pyr_top.specs.declared.command.Command.{Command}
-use Rattle.pyr_top.specs.declared.command.Command.TheVariants.{Seq, Cluster, Compile, Gantt, Check, Make}
+use Rattle.pyr_top.specs.declared.command.Command.TheVariants.{Seq, Cluster, Compile, Gantt, Check, Run, Make}
 use Rattle.pyr_top.specs.declared.refusal.Refusal.{Refusal}
 use Rattle.pyr_top.specs.declared.refusal.Refusal.TheVariants.{Usage, Source, Sink, Memory, TooLong, Program, Load}
 use Rattle.pyr_top.specs.declared.status.Status as status
 use Rattle.pyr_top.specs.declared.status.Status.TheVariants as statuses
 use Rattle.pyr_graphtext.specs.declared.program_fault.ProgramFault.TheVariants as faults
 use Rattle.pyr_loader.specs.declared.load_fault.LoadFault.TheVariants as loads
-use Rattle.pyr_top.specs.Commands.{input_of, has_input, Spells, ReadsInput}
-use Rattle.pyr_top.specs.Refusals.{status_of, IsToldAs}
+use Rattle.pyr_top.specs.Commands.{input_of, has_input, spelling, Spells, NoCommand, ReadsInput}
+use Rattle.pyr_top.specs.Refusals.{status_of, line_of, IsToldAs}
+use Rattle.pyr_top.specs.Headline.{Promises, KeepsPromise}
+use Rattle.pyr_top.specs.Calls.{IsCall}
 use Rattle.pyr_top.specs.Answers.{Refuses, Gives, Answers, IsGiven, IsAnswered, Delivers, Cause, EndsAs, IsComplete, IsReadToEnd, IsRefusedAs, tells_of_input}
 use Rattle.pyr_top.specs.Responding.{IsInput, CauseOf, ReachesEnd}
 use Rattle.pyr_top.proofs.OneCommand.{one_command}
@@ -26,6 +29,23 @@ map_some (Some x) P Q each h = each x h
 all_some : {A : Type 0} (o : Option A) (P : A → Type 0) → ((x : A) → P x) → IfSome o P
 all_some None P each = tt
 all_some (Some x) P each = each x
+
+pub map_ok : {A B : Type 0} (r : Result A B) (P Q : A → Type 0) → ((x : A) → P x → Q x) → IfOk r P → IfOk r Q
+map_ok (Ok x) P Q each h = each x h
+map_ok (Err e) P Q each h = tt
+
+-- what a command gives for its input is its defined answer
+pub is_given : (command : Command) (left : Option (List ℕ)) (bytes output : List ℕ) → IsInput command left bytes → length bytes ≤ INPUT → Gives command bytes (Ok output) → IsGiven command left (λ given. given ≡ Ok output)
+is_given command left bytes output is_input fits gives =
+    map_some (input_of command left) (λ input. input ≡ bytes) _
+    (λ input same. (
+      Ok output,
+      record {
+        within = λ within. subst (λ (i : List ℕ). Gives command i (Ok output)) (sym same) gives;
+        above = λ above. absurd (let e : length input ≡ length bytes = ap (λ (i : List ℕ). length i) same in omega (arith, e, above, fits));
+      },
+      refl,
+    )) is_input
 
 -- what is so of the defined answer, at the command that the words spell
 module _ (words : List (List ℕ)) (left : Option (List ℕ)) (P : Result (List ℕ) Refusal → Type 0) (answered : IsAnswered words left P) (command : Command) (spelled : Spells words command) where
@@ -61,13 +81,13 @@ complete_refused words left old new source out Sink cause no_source no_out comma
 complete_refused words left old new source out Memory cause no_source no_out command spelled = all_some (input_of command left) _ (λ input given answers. inr refl)
 complete_refused words left old new source out TooLong cause no_source no_out command spelled =
     map_some (input_of command left) _ _ (λ input each given answers. inl (ended_refused old new given TooLong (each given answers)))
-    (so_of_each words left (λ given. given ≡ Err TooLong) cause command spelled)
+    (so_of_each words left (λ given. given ≡ Err TooLong) cause.1 command spelled)
 complete_refused words left old new source out (Program fault) cause no_source no_out command spelled =
     map_some (input_of command left) _ _ (λ input each given answers. inl (ended_refused old new given (Program fault) (each given answers)))
-    (so_of_each words left (λ given. given ≡ Err (Program fault)) cause.1 command spelled)
+    (so_of_each words left (λ given. given ≡ Err (Program fault)) cause.2 command spelled)
 complete_refused words left old new source out (Load fault) cause no_source no_out command spelled =
     map_some (input_of command left) _ _ (λ input each given answers. inl (ended_refused old new given (Load fault) (each given answers)))
-    (so_of_each words left (λ given. given ≡ Err (Load fault)) cause.1 command spelled)
+    (so_of_each words left (λ given. given ≡ Err (Load fault)) cause.2 command spelled)
 
 -- the output of a command, written so
 pub delivers : (words : List (List ℕ)) (left : Option (List ℕ)) (command : Command) (output : List ℕ) (IsWritten : List ℕ → Type 0) → Spells words command → IsGiven command left (λ given. given ≡ Ok output) → IsWritten output → Delivers words left IsWritten
@@ -124,13 +144,13 @@ refused_by words left source out Sink cause tells = absurd (untold tells)
 refused_by words left source out Memory cause tells = absurd (untold tells)
 refused_by words left source out TooLong cause tells =
     answered_so words left (λ given. given ≡ Err TooLong) (λ given. (refusal : Refusal) × (given ≡ Err refusal) × (status_of TooLong ≡ status_of refusal))
-    (λ given is. (TooLong, is, refl)) cause
+    (λ given is. (TooLong, is, refl)) cause.1
 refused_by words left source out (Program fault) cause tells =
     answered_so words left (λ given. given ≡ Err (Program fault)) (λ given. (refusal : Refusal) × (given ≡ Err refusal) × (status_of (Program fault) ≡ status_of refusal))
-    (λ given is. (Program fault, is, refl)) cause.1
+    (λ given is. (Program fault, is, refl)) cause.2
 refused_by words left source out (Load fault) cause tells =
     answered_so words left (λ given. given ≡ Err (Load fault)) (λ given. (refusal : Refusal) × (given ≡ Err refusal) × (status_of (Load fault) ≡ status_of refusal))
-    (λ given is. (Load fault, is, refl)) cause.1
+    (λ given is. (Load fault, is, refl)) cause.2
 
 -- and so is one that was told
 pub refused_told : (words : List (List ℕ)) (left : Option (List ℕ)) (source out : Type 0) (refusal told : Refusal) (ended : status.Status) → Cause words left source out refusal → IsToldAs refusal told
@@ -156,31 +176,41 @@ refused_told words left source out refusal told ended cause as_told is tells =
     by_refusal (Program fault) c e t = made (Program fault) c e t
     by_refusal (Load fault) c e t = made (Load fault) c e t
 
--- no refusal ends with Ok
-never_ok : (r : Refusal) → status_of r ≡ statuses.Ok → ⊥
-never_ok Usage e = absurd (cc)
-never_ok Source e = absurd (cc)
-never_ok Sink e = absurd (cc)
-never_ok Memory e = absurd (cc)
-never_ok TooLong e = absurd (cc)
-never_ok (Program (faults.BadText line)) e = absurd (cc)
-never_ok (Program (faults.Limit line which)) e = absurd (cc)
-never_ok (Program (faults.Names line kind name)) e = absurd (cc)
-never_ok (Program faults.NoTask) e = absurd (cc)
-never_ok (Program (faults.NoWriter name)) e = absurd (cc)
-never_ok (Program (faults.Cycle names)) e = absurd (cc)
-never_ok (Program faults.Memory) e = absurd (cc)
-never_ok (Load (loads.BadText line)) e = absurd (cc)
-never_ok (Load (loads.Limit line which)) e = absurd (cc)
-never_ok (Load (loads.Law number a b)) e = absurd (cc)
-never_ok (Load (loads.Stuck stops)) e = absurd (cc)
-never_ok (Load (loads.Leftover from to d)) e = absurd (cc)
-never_ok (Load loads.Memory) e = absurd (cc)
+-- the refusals that their status tells
+abbrev IsKnown : status.Status → Refusal → Type 0
+IsKnown statuses.Ok r = ⊥
+IsKnown statuses.Usage r = r ≡ Usage
+IsKnown statuses.Source r = r ≡ Source
+IsKnown statuses.Sink r = r ≡ Sink
+IsKnown _ r = Unit {0}
+
+known : (r : Refusal) → IsKnown (status_of r) r
+known Usage = refl
+known Source = refl
+known Sink = refl
+known Memory = tt
+known TooLong = tt
+known (Program (faults.BadText line)) = tt
+known (Program (faults.Limit line which)) = tt
+known (Program (faults.Names line kind name)) = tt
+known (Program faults.NoTask) = tt
+known (Program (faults.NoWriter name)) = tt
+known (Program (faults.Cycle names)) = tt
+known (Program faults.Memory) = tt
+known (Load (loads.BadText line)) = tt
+known (Load (loads.Limit line which)) = tt
+known (Load (loads.Law number a b)) = tt
+known (Load (loads.Stuck stops)) = tt
+known (Load (loads.Leftover from to d)) = tt
+known (Load loads.Memory) = tt
+
+known_by : (r : Refusal) (ended : status.Status) → ended ≡ status_of r → IsKnown ended r
+known_by r ended is = subst (λ (s : status.Status). IsKnown s r) (sym is) (known r)
 
 -- what holds where a refusal tells of the input holds where one was told that does
 pub told_at_end : (P : Type 0) (refusal told : Refusal) (ended : status.Status) → (IsTrue (tells_of_input (status_of refusal)) → P) → IsToldAs refusal told → ended ≡ status_of told
     → (ended ≡ statuses.Ok) ⊎ IsTrue (tells_of_input ended) → P
-told_at_end P refusal told ended holds as_told is (inl ok) = absurd (never_ok told (sym is ∙ ok))
+told_at_end P refusal told ended holds as_told is (inl ok) = absurd (known_by told statuses.Ok (sym ok ∙ is))
 told_at_end P refusal told ended holds as_told is (inr tells) = by_refusal refusal holds as_told
   where
     here : IsTrue (tells_of_input (status_of told))
@@ -201,3 +231,117 @@ told_at_end P refusal told ended holds as_told is (inr tells) = by_refusal refus
     by_refusal TooLong h e = same TooLong h e
     by_refusal (Program fault) h e = made (Program fault) h e
     by_refusal (Load fault) h e = made (Load fault) h e
+
+-- a refusal is told as itself, or as want of memory
+itself_or_memory : (refusal told : Refusal) → IsToldAs refusal told → (told ≡ refusal) ⊎ (told ≡ Memory)
+itself_or_memory Usage told e = inl e
+itself_or_memory Source told e = inl e
+itself_or_memory Sink told e = inl e
+itself_or_memory Memory told e = inl e
+itself_or_memory TooLong told e = inl e
+itself_or_memory (Program fault) told e = e
+itself_or_memory (Load fault) told e = e
+
+-- a refusal that is told as another one than want of memory is that one
+told_refusal : (refusal told other : Refusal) → IsToldAs refusal told → told ≡ other → (other ≡ Memory → ⊥) → refusal ≡ other
+told_refusal refusal told other as_told is no_memory =
+    elim (itself_or_memory refusal told as_told) [
+      | inl e ↦ sym e ∙ is
+      | inr e ↦ absurd (no_memory (sym is ∙ e))
+    ]
+
+pub never : {A : Type 0} {x : A} {r : Refusal} → Ok x ≡ Err r → ⊥
+never e = absurd (cc)
+
+abbrev refusal_in : {A : Type 0} → Result A Refusal → Refusal
+refusal_in (Ok x) = Memory
+refusal_in (Err r) = r
+
+pub same_refusal : {A : Type 0} {a b : Refusal} {x : Result A Refusal} → x ≡ Err a → x ≡ Err b → a ≡ b
+same_refusal first second = sym (ap refusal_in first) ∙ ap refusal_in second
+
+-- the clauses of a call, out of what is said of its parts
+module _ (words : List (List ℕ)) (left left_after : Option (List ℕ)) (source_same source_fails : Type 0) (out out_after : Option (List ℕ)) (out_same out_fails : Type 0) (err err_after : Option (List ℕ)) (err_same err_fails : Type 0) (unread : (ReadsInput words → ⊥) → source_same) where
+  -- of a call that delivered its output
+  pub call_fine : Delivers words left (Appends out out_after) → KeepsPromise words left out out_after → (NoCommand words → ⊥) → IsReadToEnd words left left_after → err_same
+      → IsCall words left left_after source_same source_fails out out_after out_same out_fails err err_after err_same err_fails statuses.Ok
+  call_fine delivered kept spelled end untold =
+      record {
+        ok = λ e. delivered;
+        usage = (λ e. absurd (cc), λ none. absurd (spelled none));
+        source_failed = λ e. absurd (cc);
+        sink_failed = λ e. absurd (cc);
+        input_refused = λ e. absurd (cc);
+        complete = λ no_source no_out. complete_fine words left out out_after delivered;
+        safe = λ e. kept;
+        unread = unread;
+        read_to_end = λ e. end;
+        nothing = λ no. absurd (no refl);
+        prefix = λ e. absurd (cc);
+        quiet = λ e. untold;
+        told = λ no. absurd (no refl);
+      }
+
+  -- of a call that told its refusal
+  pub call_refused : (refusal told : Refusal) (ended : status.Status) → Cause words left source_fails out_fails refusal → IsToldAs refusal told → ended ≡ status_of told
+      → (NoCommand words → refusal ≡ Usage) → (IsTrue (tells_of_input (status_of refusal)) → IsReadToEnd words left left_after) → ((refusal ≡ Sink → ⊥) → out_same) → (refusal ≡ Sink → Delivers words left (AppendsPrefix out out_after))
+      → AppendsPrefix err err_after (line_of told) → Appends err err_after (line_of told) ⊎ err_fails
+      → IsCall words left left_after source_same source_fails out out_after out_same out_fails err err_after err_same err_fails ended
+  call_refused refusal told ended cause as_told is usage at_end nothing prefix line whole =
+      record {
+        ok = λ e. absurd (known_by told statuses.Ok (sym e ∙ is));
+        usage = (λ e. subst (Cause words left source_fails out_fails) (told_refusal refusal told Usage as_told (known_by told statuses.Usage (sym e ∙ is)) (λ m. absurd (cc))) cause, λ none. is ∙ ap status_of (told_usage (usage none)));
+        source_failed = λ e. subst (Cause words left source_fails out_fails) (told_refusal refusal told Source as_told (known_by told statuses.Source (sym e ∙ is)) (λ m. absurd (cc))) cause;
+        sink_failed = λ e. subst (Cause words left source_fails out_fails) (sunk e) cause;
+        input_refused = refused_told words left source_fails out_fails refusal told ended cause as_told is;
+        complete = complete_told words left out out_after source_fails out_fails refusal told ended cause as_told is;
+        safe = λ e. absurd (known_by told statuses.Ok (sym e ∙ is));
+        unread = unread;
+        read_to_end = told_at_end (IsReadToEnd words left left_after) refusal told ended at_end as_told is;
+        nothing = λ no_ok no_sink. nothing (λ sink. no_sink (is ∙ ap status_of (told_sink sink)));
+        prefix = λ e. prefix (sunk e);
+        quiet = λ e. absurd (known_by told statuses.Ok (sym e ∙ is));
+        told = λ no_ok. record { refusal = told; status = is; cause = told_cause (itself_or_memory refusal told as_told); line = line; whole = whole };
+      }
+    where
+      sunk : ended ≡ statuses.Sink → refusal ≡ Sink
+      sunk e = told_refusal refusal told Sink as_told (known_by told statuses.Sink (sym e ∙ is)) (λ m. absurd (cc))
+
+      told_usage : refusal ≡ Usage → told ≡ Usage
+      told_usage e = subst (λ (r : Refusal). IsToldAs r told) e as_told
+
+      told_sink : refusal ≡ Sink → told ≡ Sink
+      told_sink e = subst (λ (r : Refusal). IsToldAs r told) e as_told
+
+      told_cause : (told ≡ refusal) ⊎ (told ≡ Memory) → Cause words left source_fails out_fails told
+      told_cause (inl e) = subst (Cause words left source_fails out_fails) (sym e) cause
+      told_cause (inr e) = subst (Cause words left source_fails out_fails) (sym e) tt
+
+-- the words of `run` spell it, and so are a command
+pub run_spelled : Spells (spelling Run) Run
+run_spelled = record { text = refl; range = tt }
+
+pub run_is_a_command : NoCommand (spelling Run) → ⊥
+run_is_a_command none = none Run run_spelled
+
+pub run_reads : ReadsInput (spelling Run)
+run_reads = record { command = Run; spelled = run_spelled; input = refl }
+
+-- the cause of a refusal of a command is one for the words that spell it
+pub cause_of : (words : List (List ℕ)) (left : Option (List ℕ)) (source out : Type 0) (command : Command) (refusal : Refusal) → Spells words command → CauseOf command left source refusal → Cause words left source out refusal
+cause_of words left source out command Usage spelled cause = absurd cause
+cause_of words left source out command Source spelled cause = (record { command = command; spelled = spelled; input = cause.0 }, cause.1)
+cause_of words left source out command Sink spelled cause = absurd cause
+cause_of words left source out command Memory spelled cause = tt
+cause_of words left source out command TooLong spelled cause = (record { command = command; spelled = spelled; input = cause.0 }, record { command = command; spelled = spelled; answer = cause.1 })
+cause_of words left source out command (Program fault) spelled cause = (cause.0, record { command = command; spelled = spelled; graph = cause.1 }, record { command = command; spelled = spelled; answer = cause.2 })
+cause_of words left source out command (Load fault) spelled cause = (cause.0, record { command = command; spelled = spelled; bundle = cause.1 }, record { command = command; spelled = spelled; answer = cause.2 })
+
+-- what is promised of the output of a command, where that was written
+pub keeps_promise : (words : List (List ℕ)) (left old new : Option (List ℕ)) (command : Command) (output : List ℕ) → Spells words command → IfSome (input_of command left) (λ input. Promises command input output) → Appends old new output → KeepsPromise words left old new
+keeps_promise words left old new command output spelled promised written =
+    record {
+      command = command;
+      spelled = spelled;
+      kept = map_some (input_of command left) _ _ (λ input holds. (output, written, holds)) promised;
+    }

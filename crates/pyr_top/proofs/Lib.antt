@@ -3,6 +3,7 @@ pub mod OutputLemmas
 pub mod ClusterLemmas
 pub mod GanttLemmas
 pub mod LoadLemmas
+pub mod CompiledLemmas
 pub mod OneCommand
 pub mod OneAnswer
 pub mod Answering

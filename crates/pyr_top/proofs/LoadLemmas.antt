@@ -1,63 +1,65 @@
--- A compiled bundle is one that the loader accepts.
-use Rattle.std.proofs.Common.{◌≡◌, ℕ, List, [], ◌∷◌, map, refl, sym, ap, ◌∙◌, subst}
-use Rattle.std.specs.Prelude.{All}
-use Rattle.std.proofs.lemmas.List.Elements.{All-head, All-tail}
+-- A compiled bundle is one that the loader accepts, and what the run of a loaded one prints.
+use Rattle.std.proofs.Common.{◌≡◌, ◌≤◌, ℕ, List, [], ◌∷◌, length, map, refl, sym, ap, ◌∙◌, subst}
+use Rattle.std.proofs.lemmas.List.{length-map}
+use Rattle.pyr_num.specs.declared.limits.TheConstants.Limits.{INPUT}
 use Rattle.pyr_num.specs.declared.ids.DatumId.{DatumId}
 use Rattle.pyr_graphtext.specs.Program.{ProgramParts}
-use Rattle.pyr_bundle.specs.declared.bundle_task.BundleTask.{BundleTask}
-use Rattle.pyr_bundle.specs.declared.capacity.Capacity.{Capacity}
-use Rattle.pyr_bundle.specs.declared.instr.Instr.{Instr}
-use Rattle.pyr_bundle.specs.declared.instr.Instr.TheVariants.{Recv, Exec, Send}
-use Rattle.pyr_bundle.specs.Raw.{shape_of}
-use Rattle.pyr_bundle.specs.Parts.{Parts, IsBundle, parts_of, raw_of, bundle_task_of, raw_task_of, datum_id, capacity_of, raw_channel_of, instr_of, raw_instr_of}
+use Rattle.pyr_bundle.specs.Parts.{Parts, IsBundle, raw_of}
 use Rattle.pyr_bundletext.specs.Answer.{StandsFor as IsTextOf}
 use Rattle.pyr_machine.specs.Good.{IsGood, Loads}
 use Rattle.pyr_machine.specs.Counts.{step_count}
 use Rattle.pyr_emit.specs.Meaning.{MeansTheSame}
+use Rattle.pyr_loader.specs.Answer.{IsLoadOf}
+use Rattle.pyr_loader.specs.Safe.{IsSafe}
 use Rattle.pyr_loader.proofs.Safety.{safe}
-use Rattle.pyr_top.specs.Headline.{RunsSafely}
+use Rattle.pyr_seq.specs.Sequential.{value_of}
+use Rattle.pyr_bundle.specs.Values.{IsOrderOf, tasks_of, printed}
+use Rattle.pyr_team.specs.Team.{Prints}
+use Rattle.pyr_top.specs.OutputsText.{bundle_outputs}
+use Rattle.pyr_top.specs.Answers.{IsRunOutput}
+use Rattle.pyr_top.specs.Responding.{IsPrintedBy}
+use Rattle.pyr_verify.proofs.LoadLemmas.{loads_of, is_accepted}
+use Rattle.pyr_top.specs.Headline.{PrintsTheSame, RunsSafely, RunsAsTold}
 
-again : {X Y : Type 0} (f : Y → X) (g : X → Y) → ((x : X) → f (g x) ≡ x) → (xs : List X) → map f (map g xs) ≡ xs
-again f g same [] = refl
-again f g same (x ∷ xs) = ap (λ y. y ∷ map f (map g xs)) (same x) ∙ ap (λ ys. x ∷ ys) (again f g same xs)
-
-instr_again : (instr : Instr) → instr_of (raw_instr_of instr) ≡ instr
-instr_again (Recv from d) = refl
-instr_again (Exec t) = refl
-instr_again (Send to d) = refl
-
-task_again : (task : BundleTask) → task.code.shape ≡ shape_of (raw_task_of task) → bundle_task_of (raw_task_of task) ≡ task
-task_again task shape = λ i. record {
-  reads = again datum_id (λ (d : DatumId). d.0) (λ d. refl) task.reads i;
-  writes = again datum_id (λ (d : DatumId). d.0) (λ d. refl) task.writes i;
-  code = record { ops = task.code.ops; shape = sym shape i };
-}
-
-tasks_again : (tasks : List BundleTask) → All (λ task. task.code.shape ≡ shape_of (raw_task_of task)) tasks → map bundle_task_of (map raw_task_of tasks) ≡ tasks
-tasks_again [] all = refl
-tasks_again (task ∷ tasks) all =
-    ap (λ (x : BundleTask). x ∷ map bundle_task_of (map raw_task_of tasks)) (task_again task (All-head (λ (x : BundleTask). x.code.shape ≡ shape_of (raw_task_of x)) task tasks all))
-    ∙ ap (λ (xs : List BundleTask). task ∷ xs) (tasks_again tasks (All-tail (λ (x : BundleTask). x.code.shape ≡ shape_of (raw_task_of x)) task tasks all))
-
--- a bundle is the one of its raw parts
-parts_again : (b : Parts) → IsBundle b → b ≡ parts_of (raw_of b)
-parts_again b bundle = sym (λ i. record {
-  datums = b.datums;
-  tasks = tasks_again b.tasks bundle.shapes i;
-  prints = again datum_id (λ (d : DatumId). d.0) (λ d. refl) b.prints i;
-  channels = again capacity_of raw_channel_of (λ (c : Capacity). refl) b.channels i;
-  code = again (map instr_of) (map raw_instr_of) (again instr_of raw_instr_of instr_again) b.code i;
-})
-
-pub runs_safely : (output : List ℕ) (p : ProgramParts) (b : Parts) → IsBundle b → IsGood b (step_count b) → MeansTheSame p b → IsTextOf output (raw_of b) → RunsSafely p output
-runs_safely output p b bundle good means text =
+pub runs_safely : (output : List ℕ) (p : ProgramParts) (b : Parts) → IsBundle b → IsGood b (step_count b) → MeansTheSame p b → PrintsTheSame p b → IsTextOf output (raw_of b) → length output ≤ INPUT → RunsSafely p output
+runs_safely output p b bundle good means prints text fits =
     record {
-      loaded = record { bundle = b; steps = step_count b };
-      loads = record {
-        is_text = record { raw = raw_of b; stands = text; lawful = bundle.lawful; parts = parts_again b bundle };
-        good = good;
-        steps = refl;
-      };
+      fits = fits;
+      loaded = loads_of b;
+      loads = is_accepted output b bundle good text;
       safe = safe b (step_count b) bundle good;
       means = means;
+      prints = prints;
+    }
+
+-- there is a list for each printed datum
+pub printed_count : (b : Parts) (steps : ℕ) (lists : List (List ℕ)) → IsBundle b → IsGood b steps → Prints b 0 lists → length lists ≡ length b.prints
+printed_count b steps lists bundle good prints =
+    let (order, ordered) = (safe b steps bundle good).order 0 in
+    ap (λ (l : List (List ℕ)). length l) (prints order ordered)
+    ∙ length-map (map (λ (d : DatumId). d.0) b.prints) (value_of (tasks_of b 0) order)
+    ∙ length-map b.prints (λ (d : DatumId). d.0)
+
+pub printed_by : (l : Loads) (lists : List (List ℕ)) (text : List ℕ) → Prints l.bundle 0 lists → text ≡ bundle_outputs l.bundle lists → IsPrintedBy l text
+printed_by l lists text prints is order ordered = is ∙ ap (bundle_outputs l.bundle) (prints order ordered)
+
+pub run_output : (l : Loads) (output : List ℕ) → IsSafe l.bundle l.steps → IsPrintedBy l output → IsRunOutput l output
+run_output l output is_safe printed_so =
+    let (order, ordered) = is_safe.order 0 in
+    record { order = order; ordered = ordered; text = printed_so order ordered }
+
+pub runs_as_told : (input output : List ℕ) (l : Loads) → IsLoadOf input l → IsSafe l.bundle l.steps → IsPrintedBy l output → RunsAsTold input output
+runs_as_told input output l loads is_safe printed_so =
+    record {
+      loaded = l;
+      loads = loads;
+      safe = is_safe;
+      every_run = λ run is finished.
+          let (order, ordered) = is_safe.order 0 in
+          record {
+            lists = printed l.bundle 0 order;
+            outputs = is_safe.outputs 0 run order is finished ordered;
+            text = printed_so order ordered;
+          };
+      one_by_one = printed_so;
     }

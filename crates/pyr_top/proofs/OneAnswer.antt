@@ -3,7 +3,7 @@ use Rattle.std.proofs.Common.{◌≡◌, ◌≢◌, ◌⊎◌, ◌<◌, ◌≤�
 use Rattle.std.proofs.lemmas.Bool.{cases_lt, cases_order}
 use Rattle.pyr_num.specs.declared.limits.TheConstants.Limits.{INPUT}
 use Rattle.pyr_top.specs.declared.command.Command.{Command}
-use Rattle.pyr_top.specs.declared.command.Command.TheVariants.{Seq, Cluster, Compile, Gantt, Check, Make}
+use Rattle.pyr_top.specs.declared.command.Command.TheVariants.{Seq, Cluster, Compile, Gantt, Check, Run, Make, VerifyMake}
 use Rattle.pyr_top.specs.declared.refusal.Refusal.{Refusal}
 use Rattle.pyr_top.specs.declared.refusal.Refusal.TheVariants.{Usage, Source, Sink, Memory, TooLong, Program, Load}
 use Rattle.pyr_seq.specs.Sequential.{outputs_of, value_of, HasOneWriter}
@@ -15,13 +15,20 @@ use Rattle.pyr_graphtext.specs.Sequential.{IsOrder}
 use Rattle.pyr_graphtext.specs.Answer.{StandsFor}
 use Rattle.pyr_graphtext.proofs.OneAnswer.{one_answer_is_told}
 use Rattle.pyr_compile.proofs.UniqueLemmas.{one_text}
+use Rattle.pyr_num.specs.declared.ids.DatumId.{DatumId}
+use Rattle.pyr_bundle.specs.Values.{tasks_of as tasks_of_bundle}
+use Rattle.pyr_bundle.proofs.ValueLemmas.{has_one_writer}
 use Rattle.pyr_machine.specs.Good.{Loads}
+use Rattle.pyr_loader.specs.Answer.{IsLoadOf}
 use Rattle.pyr_loader.specs.Laws.{OneAnswerIsTold}
-use Rattle.pyr_loader.proofs.OneAnswer.{one_answer as one_load_answer}
-use Rattle.pyr_top.specs.OutputsText.{outputs_text}
+use Rattle.pyr_loader.proofs.OneAnswer.{one_answer as one_load_answer, is_bundle}
+use Rattle.pyr_verify.specs.declared.summary.Summary.{Summary}
+use Rattle.pyr_verify.proofs.OneSummary.{one_summary}
+use Rattle.pyr_top.specs.SummaryText.{summary_text}
+use Rattle.pyr_top.specs.OutputsText.{outputs_text, bundle_outputs}
 use Rattle.pyr_top.proofs.ClusterLemmas.{one_cluster_report}
 use Rattle.pyr_top.proofs.GanttLemmas.{one_gantt_report}
-use Rattle.pyr_top.specs.Answers.{IsPrinted, IsClusterReport, IsBundleText, IsGanttReport, IsTextFor, GivesText, RefusesProgram, RefusesBundle, IsCheckReport, GivesCheck, check_report, Gives, Answers}
+use Rattle.pyr_top.specs.Answers.{IsPrinted, IsClusterReport, IsBundleText, IsGanttReport, IsTextFor, GivesText, RefusesProgram, RefusesBundle, IsCheckReport, IsRunOutput, IsTextOfLoaded, GivesLoaded, GivesSummary, check_report, Gives, Answers}
 
 loading : OneAnswerIsTold
 loading = one_load_answer
@@ -116,30 +123,54 @@ one_fault input Memory b first second = absurd first
 one_fault input TooLong b first second = absurd first
 one_fault input (Program f) b first second = absurd first
 
-accepted_or_refused : (input output : List ℕ) (r : Refusal) → IsCheckReport input output → RefusesBundle input r → ⊥
-accepted_or_refused input output (Load f) report refuses = loading.not_both input report.loaded f refuses.0 report.loads refuses.1
-accepted_or_refused input output Usage report refuses = refuses
-accepted_or_refused input output Source report refuses = refuses
-accepted_or_refused input output Sink report refuses = refuses
-accepted_or_refused input output Memory report refuses = refuses
-accepted_or_refused input output TooLong report refuses = refuses
-accepted_or_refused input output (Program f) report refuses = refuses
+loaded_or_refused : (input : List ℕ) (l : Loads) (r : Refusal) → IsLoadOf input l → RefusesBundle input r → ⊥
+loaded_or_refused input l (Load f) is refuses = loading.not_both input l f refuses.0 is refuses.1
+loaded_or_refused input l Usage is refuses = refuses
+loaded_or_refused input l Source is refuses = refuses
+loaded_or_refused input l Sink is refuses = refuses
+loaded_or_refused input l Memory is refuses = refuses
+loaded_or_refused input l TooLong is refuses = refuses
+loaded_or_refused input l (Program f) is refuses = refuses
 
-one_check : (input : List ℕ) (given other : Result (List ℕ) Refusal) → GivesCheck input given → GivesCheck input other → given ≡ other
-one_check input (Ok a) (Ok b) first second =
+-- where a loaded bundle has one such text, a bundle text has one
+one_text_of : (IsText : Loads → List ℕ → Type 0) (input a b : List ℕ) → ((l : Loads) → IsLoadOf input l → IsText l a → IsText l b → a ≡ b) → IsTextOfLoaded IsText input a → IsTextOfLoaded IsText input b → a ≡ b
+one_text_of IsText input a b unique first second =
     let same : first.loaded ≡ second.loaded = loading.one_load input first.loaded second.loaded first.loads second.loads in
-    ap Ok (first.text ∙ ap (λ (l : Loads). check_report l.steps) same ∙ sym second.text)
-one_check input (Ok a) (Err r) first second = absurd (accepted_or_refused input a r first second)
-one_check input (Err r) (Ok b) first second = absurd (accepted_or_refused input b r second first)
-one_check input (Err r) (Err q) first second = ap Err (one_fault input r q first second)
+    unique second.loaded second.loads (subst (λ (l : Loads). IsText l a) same first.text) second.text
+
+-- and one answer is given for it
+one_loaded_given : (IsText : Loads → List ℕ → Type 0) (input : List ℕ) (given other : Result (List ℕ) Refusal) → ((l : Loads) (a b : List ℕ) → IsLoadOf input l → IsText l a → IsText l b → a ≡ b)
+    → GivesLoaded IsText input given → GivesLoaded IsText input other → given ≡ other
+one_loaded_given IsText input (Ok a) (Ok b) unique first second = ap Ok (one_text_of IsText input a b (λ l. unique l a b) first second)
+one_loaded_given IsText input (Ok a) (Err r) unique first second = absurd (loaded_or_refused input first.loaded r first.loads second)
+one_loaded_given IsText input (Err r) (Ok b) unique first second = absurd (loaded_or_refused input second.loaded r second.loads first)
+one_loaded_given IsText input (Err r) (Err q) unique first second = ap Err (one_fault input r q first second)
+
+-- a loaded bundle prints one text
+one_run_output : (input : List ℕ) (l : Loads) (a b : List ℕ) → IsLoadOf input l → IsRunOutput l a → IsRunOutput l b → a ≡ b
+one_run_output input l a b is first second =
+    first.text
+    ∙ ap (bundle_outputs l.bundle)
+    (same_values (value_of (tasks_of_bundle l.bundle 0) first.order) (value_of (tasks_of_bundle l.bundle 0) second.order)
+    (λ d. ap (λ (o : Option (List ℕ)). unwrap_or o []) (values-same (tasks_of_bundle l.bundle 0) first.order second.order (has_one_writer l.bundle 0 (is_bundle input l.bundle is.is_text)) first.ordered second.ordered d))
+    (map (λ (d : DatumId). d.0) l.bundle.prints))
+    ∙ sym second.text
+
+-- a generated graph has one text of figures
+one_summary_given : (tasks processors : ℕ) (given other : Result (List ℕ) Refusal) → GivesSummary tasks processors given → GivesSummary tasks processors other → given ≡ other
+one_summary_given tasks processors (Ok a) (Ok b) first second = ap Ok (first.text ∙ ap (λ (s : Summary). summary_text s) (one_summary tasks processors first.summary second.summary first.is second.is) ∙ sym second.text)
+one_summary_given tasks processors (Ok a) (Err r) first second = absurd second
+one_summary_given tasks processors (Err r) other first second = absurd first
 
 one_given : (command : Command) (input : List ℕ) (given other : Result (List ℕ) Refusal) → Gives command input given → Gives command input other → given ≡ other
 one_given Seq input given other first second = one_text_given IsPrinted input given other one_print first second
 one_given Cluster input given other first second = one_text_given IsClusterReport input given other (λ p a b sound. one_cluster_report p a b) first second
 one_given (Compile processors) input given other first second = one_text_given (IsBundleText processors) input given other (λ p a b sound. one_bundle_text processors p a b) first second
 one_given (Gantt processors) input given other first second = one_text_given (IsGanttReport processors) input given other (λ p a b sound. one_gantt_report processors p a b) first second
-one_given Check input given other first second = one_check input given other first second
+one_given Check input given other first second = one_loaded_given IsCheckReport input given other (λ l a b is one two. one ∙ sym two) first second
+one_given Run input given other first second = one_loaded_given IsRunOutput input given other (one_run_output input) first second
 one_given (Make tasks) input given other first second = first ∙ sym second
+one_given (VerifyMake tasks processors) input given other first second = one_summary_given tasks processors given other first second
 
 -- a command has one defined answer to an input
 pub one_answer : (command : Command) (input : List ℕ) (given other : Result (List ℕ) Refusal) → Answers command input given → Answers command input other → given ≡ other

@@ -1,17 +1,17 @@
 -- What the program answers to its words and its input.
-use Rattle.std.specs.Prelude.{◌≡◌, ◌≢◌, ◌⊎◌, ⊤, ℕ, ◌<◌, ◌≤◌, Bool, true, false, List, ◌∷◌, ◌++◌, codes, decimal, Option, Result, Ok, Err, IfSome, IsOkAnd, length}
+use Rattle.std.specs.Prelude.{◌≡◌, ◌≢◌, ◌⊎◌, ⊤, ℕ, ◌<◌, ◌≤◌, Bool, true, false, List, ◌∷◌, ◌++◌, codes, decimal, Option, Result, Ok, Err, IfSome, IsOkAnd, IsTrue, length}
 use Rattle.std.specs.Io.KnownBytes.{Appends, IsAtEnd}
 use Rattle.pyr_num.specs.declared.limits.TheConstants.Limits.{INPUT}
 use Rattle.pyr_port.specs.Giving.{AppendsPrefix}
 use Rattle.pyr_top.specs.declared.command.Command.{Command}
-use Rattle.pyr_top.specs.declared.command.Command.TheVariants.{Seq, Cluster, Compile, Gantt, Check, Make}
+use Rattle.pyr_top.specs.declared.command.Command.TheVariants.{Seq, Cluster, Compile, Gantt, Check, Run, Make, VerifyMake}
 use Rattle.pyr_top.specs.declared.refusal.Refusal.{Refusal}
 use Rattle.pyr_top.specs.declared.refusal.Refusal.TheVariants.{Usage, Source, Sink, Memory, TooLong, Program, Load}
 use Rattle.pyr_top.specs.declared.status.Status as status
 use Rattle.pyr_top.specs.declared.status.Status.TheVariants as statuses
-use Rattle.pyr_top.specs.Commands.{input_of, Spells, NoCommand, ReadsInput}
+use Rattle.pyr_top.specs.Commands.{reads_graph, reads_bundle, input_of, Spells, NoCommand, ReadsInput, ReadsGraph, ReadsBundle}
 use Rattle.pyr_top.specs.Refusals.{status_of, line_of, too_long, IsToldAs}
-use Rattle.pyr_top.specs.OutputsText.{outputs_text}
+use Rattle.pyr_top.specs.OutputsText.{outputs_text, bundle_outputs}
 use Rattle.pyr_seq.specs.Sequential.{outputs_of}
 use Rattle.pyr_graph.specs.System.{datum_numbers}
 use Rattle.pyr_graph.specs.Clusters.{cluster_numbers}
@@ -24,12 +24,16 @@ use Rattle.pyr_rcp.specs.Order.{IsOrdered}
 use Rattle.pyr_gantt.specs.Gantt.{gantt_report}
 use Rattle.pyr_bundle.specs.declared.raw_bundle.RawBundle.{RawBundle}
 use Rattle.pyr_bundletext.specs.Answer.{StandsFor as IsTextOf}
+use Rattle.pyr_bundle.specs.Values.{IsOrderOf, printed}
 use Rattle.pyr_compile.specs.Compiled.{IsCompiled}
 use Rattle.pyr_machine.specs.Good.{Loads}
 use Rattle.pyr_loader.specs.declared.load_fault.LoadFault.TheVariants as loads
 use Rattle.pyr_loader.specs.Answer.{IsLoadOf, IsRefusal}
 use Rattle.pyr_make.specs.Layered.{layered_program}
+use Rattle.pyr_verify.specs.declared.summary.Summary.{Summary}
+use Rattle.pyr_verify.specs.Summary.{IsSummary}
 use Rattle.pyr_top.specs.ClusterReport.{cluster_report}
+use Rattle.pyr_top.specs.SummaryText.{summary_text}
 use Rattle.pyr_graphtext.specs.declared.program_fault.ProgramFault.TheVariants as faults
 use Rattle.pyr_graphtext.specs.Program.{ProgramParts, tasks_of}
 use Rattle.pyr_graphtext.specs.Canonical.{program_text}
@@ -86,21 +90,42 @@ GivesText IsText input (Err refusal) = RefusesProgram input refusal
 abbrev pub check_report : ℕ → List ℕ
 check_report steps = codes "accepted\nsteps" ++ 32 ∷ decimal steps ++ codes "\n"
 
--- the input is the text of a bundle that the loader accepts, and this is the report on it
-pub record IsCheckReport (input output : List ℕ) : Type 0 where
+-- the report on a loaded bundle
+abbrev pub IsCheckReport : Loads → List ℕ → Type 0
+IsCheckReport loaded output = output ≡ check_report loaded.steps
+
+-- what the tasks of a loaded bundle print, run one by one in a topological order
+pub record IsRunOutput (loaded : Loads) (output : List ℕ) : Type 0 where
+  pub order : List ℕ
+  pub ordered : IsOrderOf loaded.bundle 0 order
+  pub text : output ≡ bundle_outputs loaded.bundle (printed loaded.bundle 0 order)
+
+-- the input is the text of a bundle that the loader accepts, and the output is such a text of it
+pub record IsTextOfLoaded (IsText : Loads → List ℕ → Type 0) (input output : List ℕ) : Type 0 where
   pub loaded : Loads
   pub loads : IsLoadOf input loaded
-  pub text : output ≡ check_report loaded.steps
+  pub text : IsText loaded output
 
 -- the loader refuses the input so
 abbrev pub RefusesBundle : List ℕ → Refusal → Type 0
 RefusesBundle input (Load fault) = (fault ≢ loads.Memory) × IsRefusal input fault
 RefusesBundle input refusal = ⊥
 
--- what `check` makes of a bundle text: the report on it, or its refusal
-abbrev pub GivesCheck : List ℕ → Result (List ℕ) Refusal → Type 0
-GivesCheck input (Ok output) = IsCheckReport input output
-GivesCheck input (Err refusal) = RefusesBundle input refusal
+-- what a command makes of a bundle text: such a text of its bundle, or its refusal
+abbrev pub GivesLoaded : (Loads → List ℕ → Type 0) → List ℕ → Result (List ℕ) Refusal → Type 0
+GivesLoaded IsText input (Ok output) = IsTextOfLoaded IsText input output
+GivesLoaded IsText input (Err refusal) = RefusesBundle input refusal
+
+-- the figures of the generated graph of so many tasks, compiled for so many processors
+pub record IsSummaryText (tasks processors : ℕ) (output : List ℕ) : Type 0 where
+  pub summary : Summary
+  pub is : IsSummary tasks processors summary
+  pub text : output ≡ summary_text summary
+
+-- what `verify-make` gives: this text
+abbrev pub GivesSummary : ℕ → ℕ → Result (List ℕ) Refusal → Type 0
+GivesSummary tasks processors (Ok output) = IsSummaryText tasks processors output
+GivesSummary tasks processors (Err refusal) = ⊥
 
 -- what a command gives for an input within the limit: its output, or its refusal
 abbrev pub Gives : Command → List ℕ → Result (List ℕ) Refusal → Type 0
@@ -108,14 +133,18 @@ Gives Seq input given = GivesText IsPrinted input given
 Gives Cluster input given = GivesText IsClusterReport input given
 Gives (Compile processors) input given = GivesText (IsBundleText processors) input given
 Gives (Gantt processors) input given = GivesText (IsGanttReport processors) input given
-Gives Check input given = GivesCheck input given
+Gives Check input given = GivesLoaded IsCheckReport input given
+Gives Run input given = GivesLoaded IsRunOutput input given
 Gives (Make tasks) input given = given ≡ Ok (program_text (layered_program tasks))
+Gives (VerifyMake tasks processors) input given = GivesSummary tasks processors given
 
 -- a command refuses the input so, or memory ran out
 abbrev pub Refuses : Command → List ℕ → Refusal → Type 0
 Refuses command input Memory = ⊤
-Refuses command input (Program fault) = Gives command input (Err (Program fault))
-Refuses command input (Load fault) = Gives command input (Err (Load fault))
+Refuses command input (Program fault) =
+    IsTrue (reads_graph command) × Gives command input (Err (Program fault))
+Refuses command input (Load fault) =
+    IsTrue (reads_bundle command) × Gives command input (Err (Load fault))
 Refuses command input refusal = ⊥
 
 -- the defined answer of a command to an input: what it gives, and above the limit the refusal for that
@@ -144,11 +173,14 @@ Cause words left source out Usage = NoCommand words
 Cause words left source out Source = ReadsInput words × source
 Cause words left source out Sink = out
 Cause words left source out Memory = Unit {0}
-Cause words left source out TooLong = IsAnswered words left (λ given. given ≡ Err TooLong)
+Cause words left source out TooLong =
+    ReadsInput words × IsAnswered words left (λ given. given ≡ Err TooLong)
 Cause words left source out (Program fault) =
-    (fault ≢ faults.Memory) × IsAnswered words left (λ given. given ≡ Err (Program fault))
+    (fault ≢ faults.Memory) × ReadsGraph words
+    × IsAnswered words left (λ given. given ≡ Err (Program fault))
 Cause words left source out (Load fault) =
-    (fault ≢ loads.Memory) × IsAnswered words left (λ given. given ≡ Err (Load fault))
+    (fault ≢ loads.Memory) × ReadsBundle words
+    × IsAnswered words left (λ given. given ≡ Err (Load fault))
 
 -- the status tells of the input
 abbrev pub tells_of_input : status.Status → Bool

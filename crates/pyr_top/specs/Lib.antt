@@ -6,6 +6,8 @@ pub mod Commands
 pub mod Numerals
 pub mod OutputsText
 pub mod ClusterReport
+pub mod SummaryText
 pub mod Answers
 pub mod Headline
+pub mod Calls
 pub mod Responding

@@ -1,6 +1,6 @@
 // The commands, and the words that spell them.
-ghost use Rattle.std.specs.Prelude.{◌≡◌, ◌∷◌, [], IfSome, IfNone};
-ghost use Rattle.pyr_top.specs.Commands.{texts, has_input, Spells, NoCommand};
+ghost use Rattle.std.specs.Prelude.{◌≡◌, ◌↔◌, ◌∷◌, [], IfSome, IfNone, IsTrue};
+ghost use Rattle.pyr_top.specs.Commands.{texts, has_input, Spells, NoCommand, AsksToRun};
 ghost use Rattle.pyr_top.specs.Numerals.{IsNumeralIn, NoNumeralIn};
 
 use pyr_lex::number;
@@ -21,8 +21,15 @@ pub enum Command {
     Gantt(u32),
     /// Tells whether a bundle text is that of a bundle that can be run, and in how many steps.
     Check,
+    /// Runs the bundle of a bundle text, each of its processors but the first on a thread of its own,
+    /// and prints the printed data.
+    Run,
     /// Writes the text of a generated graph of this many tasks, from 1 to `Limits::TASKS`.
     Make(u32),
+    /// Makes the generated graph of so many tasks, from 1 to `Limits::TASKS`, compiles it for so many
+    /// processors, from 1 to `Limits::PROCESSORS`, prints and loads the bundle, runs it on one thread,
+    /// and tells figures of that.
+    VerifyMake { tasks: u32, processors: u32 },
 }
 
 impl Command {
@@ -35,8 +42,9 @@ impl Command {
             | Command::Cluster
             | Command::Compile(_)
             | Command::Gantt(_)
-            | Command::Check => true,
-            Command::Make(_) => false,
+            | Command::Check
+            | Command::Run => true,
+            Command::Make(_) | Command::VerifyMake { .. } => false,
         }
     }
 }
@@ -50,7 +58,31 @@ pub fn read_command(words: &[String]) -> Option<Command>
     match words {
         [word] => plain_command(word.as_str()),
         [word, text] => numbered_command(word.as_str(), text.as_str()),
+        [word, tasks, processors] => verifying_command(
+            word.as_str(),
+            tasks.as_str(),
+            processors.as_str(),
+        ),
         _ => None,
+    }
+}
+
+/// Whether the words ask to run a bundle. It takes no memory.
+pub fn asks_to_run(words: &[String]) -> bool
+    ensures { IsTrue result ↔ AsksToRun (texts words.now) }
+{
+    match words {
+        [word] => is_run(word.as_str()),
+        _ => false,
+    }
+}
+
+fn is_run(word: &str) -> bool
+    ensures { IsTrue result ↔ AsksToRun (word.now ∷ []) }
+{
+    match word {
+        "run" => true,
+        _ => false,
     }
 }
 
@@ -63,6 +95,7 @@ fn plain_command(word: &str) -> Option<Command>
         "seq" => Some(Command::Seq),
         "cluster" => Some(Command::Cluster),
         "check" => Some(Command::Check),
+        "run" => Some(Command::Run),
         _ => None,
     }
 }
@@ -75,9 +108,31 @@ fn numbered_command(word: &str, text: &str) -> Option<Command>
     match word {
         "compile" => Some(Command::Compile(processors_in(text)?)),
         "gantt" => Some(Command::Gantt(processors_in(text)?)),
-        "make" => Some(Command::Make(number_in(text, 1, Limits::TASKS)?)),
+        "make" => Some(Command::Make(tasks_in(text)?)),
         _ => None,
     }
+}
+
+// The command of a word with two numbers behind it.
+fn verifying_command(word: &str, tasks: &str, processors: &str) -> Option<Command>
+    ensures some { IfSome result (Spells (word.now ∷ tasks.now ∷ processors.now ∷ [])) }
+    ensures none { IfNone result (NoCommand (word.now ∷ tasks.now ∷ processors.now ∷ [])) }
+{
+    match word {
+        "verify-make" => Some(Command::VerifyMake {
+            tasks: tasks_in(tasks)?,
+            processors: processors_in(processors)?,
+        }),
+        _ => None,
+    }
+}
+
+// The number of tasks that the text writes.
+fn tasks_in(text: &str) -> Option<u32>
+    ensures some { IfSome result (IsNumeralIn text.now 1 Limits.TASKS) }
+    ensures none { IfNone result (NoNumeralIn text.now 1 Limits.TASKS) }
+{
+    number_in(text, 1, Limits::TASKS)
 }
 
 // The number of processors that the text writes.

@@ -8,13 +8,13 @@ mod load_messages;
 mod messages;
 mod outputs_text;
 mod refusal;
+mod running;
 mod status;
+mod summary_text;
 mod top;
 
 pub use command::Command;
 pub use refusal::Refusal;
+pub use running::{pyrros, run_command};
 pub use status::Status;
 pub use top::answer;
-
-#[cfg(test)]
-mod tests;

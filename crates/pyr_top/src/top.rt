@@ -1,17 +1,19 @@
-// The top call.
-ghost use Rattle.std.specs.Prelude.{◌≡◌, ◌≢◌, ◌⊎◌, ◌↔◌, ◌≤◌, ℕ, List, length, IfSome, IfOk, IfErr, OnOk, IsTrue, vec_len};
+// The commands that need no threads.
+ghost use Rattle.std.specs.Prelude.{◌≡◌, ◌≢◌, ◌≤◌, ℕ, List, length, IfSome, IfOk, IfErr, OnOk, IsTrue, vec_len};
 ghost use Rattle.std.specs.Io.KnownBytes.{Appends};
 ghost use Rattle.pyr_port.specs.Causes.{Rose};
 ghost use Rattle.pyr_port.specs.Giving.{AppendsPrefix};
 ghost use Rattle.pyr_graphtext.specs.Canonical.{program_text};
 ghost use Rattle.pyr_make.specs.Layered.{layered_program};
-ghost use Rattle.pyr_top.specs.Commands.{texts, has_input, input_of, IsWithinRange, NoCommand, ReadsInput};
-ghost use Rattle.pyr_top.specs.Answers.{IsPrinted, IsClusterReport, IsBundleText, IsGanttReport, IsTextFor, check_report, IsCheckReport};
-ghost use Rattle.pyr_top.specs.Headline.{IsAccepted, RunsSafely, CompilesSafely, Promises, KeepsPromise};
-ghost use Rattle.pyr_top.specs.Answers.{Gives, Refuses, IsGiven, Delivers, Cause, IsRefused, IsRefusedAs, IsComplete};
+ghost use Rattle.pyr_top.specs.Commands.{texts, has_input, input_of, IsWithinRange, NoCommand, ReadsInput, AsksToRun};
+ghost use Rattle.pyr_top.specs.Answers.{IsPrinted, IsClusterReport, IsBundleText, IsGanttReport, IsTextFor, check_report, IsCheckReport, IsTextOfLoaded, IsSummaryText};
+ghost use Rattle.pyr_top.specs.Headline.{IsAccepted, RunsSafely, CompilesSafely, Promises, KeepsPromise, TellsVerified};
+ghost use Rattle.pyr_top.specs.Answers.{Gives, Refuses, IsGiven, Delivers, Cause};
 ghost use Rattle.pyr_top.specs.Answers.{IsReadToEnd, tells_of_input, Tells, IsTold};
 ghost use Rattle.pyr_top.specs.Responding.{IsInput, CauseOf, ReachesEnd};
 ghost use Rattle.pyr_top.specs.Refusals.{status_of, line_of};
+ghost use Rattle.pyr_top.specs.Calls.{IsCall};
+ghost use Rattle.pyr_top.specs.declared.command.Command.TheVariants.{Run};
 
 use crate::cluster_report::cluster_report;
 use crate::command::read_command;
@@ -19,22 +21,23 @@ use crate::decimals::put_number;
 use crate::load_messages::load_line;
 use crate::messages::fault_line;
 use crate::outputs_text::outputs_text;
+use crate::summary_text::summary_text;
 use crate::{Command, Refusal, Status};
 use pyr_bundletext::print_bundle;
-use pyr_compile::compile;
+use pyr_compile::{compile, plan};
 use pyr_dsc::cluster;
 use pyr_gantt::report;
 use pyr_graphtext::{Program, print_program, read_program, sequential};
 use pyr_loader::load;
 use pyr_make::make;
-use pyr_merge::merge;
 use pyr_num::Limits;
 use pyr_port::{Sink, Source, read_all, write_all};
-use pyr_rcp::order;
+use pyr_verify::verify_make;
 use std::alloc::{AllocError, Global};
 
-/// Does what the words ask for: reads the source to its end, writes the output to `out`, and where it
-/// can't, one line on the cause to `err`. It takes no memory where the words are no command.
+/// Does what the words ask for, where that is not to run a bundle: reads the source to its end, writes
+/// the output to `out`, and where it can't, one line on the cause to `err`. It always returns. It takes
+/// no memory where the words are no command.
 pub fn answer<S: Source, O: Sink, E: Sink>(
     alloc: Global,
     words: &[String],
@@ -42,42 +45,14 @@ pub fn answer<S: Source, O: Sink, E: Sink>(
     out: &mut O,
     err: &mut E,
 ) -> Status
-    // Where all goes well, the defined output was appended.
-    ensures ok { result ≡ Status.Ok → Delivers (texts words.now) (S.left source.old)
-        (Appends (O.written out.old) (O.written out.new)) }
-
-    // Each refusal has its cause. Want of memory alone is free.
-    ensures usage { (result ≡ Status.Usage) ↔ NoCommand (texts words.now) }
-    ensures source_failed { result ≡ Status.Source
-        → ReadsInput (texts words.now) × Rose (S.faults source.old) (S.faults source.new) }
-    ensures sink_failed { result ≡ Status.Sink → Rose (O.faults out.old) (O.faults out.new) }
-    ensures input_refused { IsTrue (tells_of_input result)
-        → IsRefusedAs (texts words.now) (S.left source.old) result }
-
-    // Where nothing fails, the call ends as the defined answer says, or for want of memory.
-    ensures complete { ¬ Rose (S.faults source.old) (S.faults source.new)
-        → ¬ Rose (O.faults out.old) (O.faults out.new)
-        → IsComplete (texts words.now) (S.left source.old) (O.written out.old) (O.written out.new)
-        result }
-
-    // Of a bundle that was accepted or compiled: every interleaving of its processors' steps is safe
-    // and finishes with the same outputs.
-    ensures safe { result ≡ Status.Ok → KeepsPromise (texts words.now) (S.left source.old)
-        (O.written out.old) (O.written out.new) }
-
-    // What becomes of the source and of `out`.
-    ensures unread { ¬ ReadsInput (texts words.now) → source.new ≡ source.old }
-    ensures read_to_end { (result ≡ Status.Ok) ⊎ IsTrue (tells_of_input result)
-        → IsReadToEnd (texts words.now) (S.left source.old) (S.left source.new) }
-    ensures nothing { result ≢ Status.Ok → result ≢ Status.Sink → out.new ≡ out.old }
-    ensures prefix { result ≡ Status.Sink → Delivers (texts words.now) (S.left source.old)
-        (AppendsPrefix (O.written out.old) (O.written out.new)) }
-
-    // What becomes of `err`: a failing one changes no status.
-    ensures quiet { result ≡ Status.Ok → err.new ≡ err.old }
-    ensures told { result ≢ Status.Ok → IsRefused (texts words.now) (S.left source.old)
-        (Rose (S.faults source.old) (S.faults source.new)) (Rose (O.faults out.old) (O.faults out.new))
-        (Rose (E.faults err.old) (E.faults err.new)) (E.written err.old) (E.written err.new) result }
+    requires { ¬ AsksToRun (texts words.now) }
+    ensures { IsCall (texts words.now)
+        (S.left source.old) (S.left source.new) (source.new ≡ source.old)
+        (Rose (S.faults source.old) (S.faults source.new))
+        (O.written out.old) (O.written out.new) (out.new ≡ out.old)
+        (Rose (O.faults out.old) (O.faults out.new))
+        (E.written err.old) (E.written err.new) (err.new ≡ err.old)
+        (Rose (E.faults err.old) (E.faults err.new)) result }
 {
     match respond(alloc, words, source, out) {
         Ok(()) => Status::Ok,
@@ -87,7 +62,7 @@ pub fn answer<S: Source, O: Sink, E: Sink>(
 
 // Tells a refusal on `err`, and answers its status. Where its line has to be made and memory runs
 // out, that is told.
-fn refuse<E: Sink>(alloc: Global, refusal: &Refusal, err: &mut E) -> Status
+pub(crate) fn refuse<E: Sink>(alloc: Global, refusal: &Refusal, err: &mut E) -> Status
     ensures { IsTold refusal.now (Rose (E.faults err.old) (E.faults err.new))
         (E.written err.old) (E.written err.new) result }
 {
@@ -107,6 +82,7 @@ fn refuse<E: Sink>(alloc: Global, refusal: &Refusal, err: &mut E) -> Status
     }
 }
 
+// Tells this line of a refusal.
 fn tell<E: Sink>(told: &Refusal, line: &[u8], err: &mut E) -> Status
     requires { line.now ≡ line_of told.now }
     ensures { Tells told.now (Rose (E.faults err.old) (E.faults err.new))
@@ -116,12 +92,14 @@ fn tell<E: Sink>(told: &Refusal, line: &[u8], err: &mut E) -> Status
     told.status()
 }
 
+// Does what the words ask for, without the line to `err`.
 fn respond<S: Source, O: Sink>(
     alloc: Global,
     words: &[String],
     source: &mut S,
     out: &mut O,
 ) -> Result<(), Refusal>
+    requires { ¬ AsksToRun (texts words.now) }
     ensures ok { OnOk result (Delivers (texts words.now) (S.left source.old)
         (Appends (O.written out.old) (O.written out.new))) }
     ensures cause { IfErr result (λ refusal. Cause (texts words.now) (S.left source.old)
@@ -152,7 +130,8 @@ fn output_for<S: Source>(
     command: Command,
     source: &mut S,
 ) -> Result<Vec<u8>, Refusal>
-    requires { IsWithinRange command }
+    requires range { IsWithinRange command }
+    requires alone { command ≢ Run }
     ensures ok { IfOk result (λ output.
         IsGiven command (S.left source.old) (λ given. given ≡ Ok output.items)) }
     ensures safe { IfOk result (λ output. IfSome (input_of command (S.left source.old))
@@ -169,7 +148,7 @@ fn output_for<S: Source>(
 }
 
 // The input of the command: what is left in the source, or nothing where it has none.
-fn read_input<S: Source>(
+pub(crate) fn read_input<S: Source>(
     alloc: Global,
     command: Command,
     source: &mut S,
@@ -192,6 +171,7 @@ fn read_input<S: Source>(
 // What the command gives for the input.
 fn output_of(alloc: Global, command: Command, input: &[u8]) -> Result<Vec<u8>, Refusal>
     requires range { IsWithinRange command }
+    requires alone { command ≢ Run }
     requires fits { length input.now ≤ Limits.INPUT }
     ensures ok { IfOk result (λ output. Gives command input.now (Ok output.items)) }
     ensures safe { IfOk result (λ output. Promises command input.now output.items) }
@@ -203,7 +183,9 @@ fn output_of(alloc: Global, command: Command, input: &[u8]) -> Result<Vec<u8>, R
         Command::Compile(processors) => compiled_text(alloc, processors, input),
         Command::Gantt(processors) => gantt_text(alloc, processors, input),
         Command::Check => checked_text(alloc, input),
+        Command::Run => unreachable!(),
         Command::Make(tasks) => made_text(alloc, tasks),
+        Command::VerifyMake { tasks, processors } => verified_text(alloc, tasks, processors),
     }
 }
 
@@ -265,17 +247,24 @@ fn gantt_text(alloc: Global, processors: u32, input: &[u8]) -> Result<Vec<u8>, R
     ensures refused { IfErr result (Refuses (Command.Gantt processors) input.now) }
 {
     let program = read_program(alloc, input)?;
-    let graph = program.graph();
-    let clustering = cluster(alloc, graph)?;
-    let placement = merge(alloc, graph, &clustering, processors)?;
-    let plan = order(alloc, graph, &placement)?;
-    Ok(report(alloc, &program, &placement, &plan)?)
+    Ok(plan_text(alloc, processors, &program)?)
+}
+
+// When and where the tasks of a program run, on so many processors.
+fn plan_text(alloc: Global, processors: u32, program: &Program) -> Result<Vec<u8>, AllocError>
+    requires least { Limits.LEAST_PROCESSORS ≤ processors }
+    requires most { processors ≤ Limits.PROCESSORS }
+    ensures { IfOk result (λ text. IsGanttReport processors program.now text.items) }
+{
+    let planned = plan(alloc, program.graph(), processors)?;
+    let text = report(alloc, program, &planned.placement, &planned.plan)?;
+    Ok(text)
 }
 
 // The report on a bundle text that the loader accepts.
 fn checked_text(alloc: Global, input: &[u8]) -> Result<Vec<u8>, Refusal>
     requires { length input.now ≤ Limits.INPUT }
-    ensures ok { IfOk result (λ output. IsCheckReport input.now output.items) }
+    ensures ok { IfOk result (λ output. IsTextOfLoaded IsCheckReport input.now output.items) }
     ensures safe { IfOk result (λ output. IsAccepted input.now output.items) }
     ensures refused { IfErr result (Refuses Command.Check input.now) }
 {
@@ -302,4 +291,18 @@ fn made_text(alloc: Global, tasks: u32) -> Result<Vec<u8>, Refusal>
 {
     let program = make(alloc, tasks)?;
     Ok(print_program(alloc, &program)?)
+}
+
+// The figures of the generated graph of so many tasks, compiled for so many processors.
+fn verified_text(alloc: Global, tasks: u32, processors: u32) -> Result<Vec<u8>, Refusal>
+    requires some_tasks { 1 ≤ tasks }
+    requires few_tasks { tasks ≤ Limits.TASKS }
+    requires least_processors { Limits.LEAST_PROCESSORS ≤ processors }
+    requires few_processors { processors ≤ Limits.PROCESSORS }
+    ensures ok { IfOk result (λ output. IsSummaryText tasks processors output.items) }
+    ensures safe { IfOk result (λ output. TellsVerified tasks processors output.items) }
+    ensures refused { IfErr result (λ refusal. refusal ≡ Refusal.Memory) }
+{
+    let summary = verify_make(alloc, tasks, processors)?;
+    Ok(summary_text(alloc, &summary)?)
 }

@@ -2,7 +2,8 @@
 #![tactic(auto)]
 
 use pyr_port::{StdSink, StdSource};
-use pyr_top::{Status, answer};
+use pyr_proc::Free;
+use pyr_top::{Status, pyrros};
 use std::process::ExitCode;
 use std::{env, io};
 
@@ -20,7 +21,15 @@ fn main(rt: HostRuntime) -> ExitCode {
     let mut source = StdSource::new(rt.stdin());
     let mut out = StdSink::new(rt.stdout());
     let mut err = StdSink::new(rt.stderr());
-    let status = answer(rt.alloc(), &words, &mut source, &mut out, &mut err);
+    let status = pyrros(
+        &rt,
+        rt.alloc(),
+        &words,
+        &mut source,
+        &mut out,
+        &mut err,
+        &Free,
+    );
     ExitCode::from(status.code())
 }
 

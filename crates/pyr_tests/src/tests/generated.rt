@@ -1,0 +1,32 @@
+// Graphs that are made of a number.
+use crate::tests::call::{Call, gives, output};
+use crate::tests::graphs::SEVEN;
+use pyr_port::Source;
+use pyr_top::Status;
+use std::test::Fail;
+
+#[test]
+fn make_writes_the_generated_graph(rt: HostRuntime) -> Result<(), Fail> {
+    let alloc = rt.alloc();
+    let mut call = Call::new(alloc, &["make", "1"], SEVEN)?;
+    assert_eq!(rt; call.make(&rt, alloc), Status::Ok);
+    let text = b"data d0 1 0\ntask t0 1\nwrites d0\nput d0[0] = (frame + 0)\nend\nprint d0\n";
+    assert!(rt; call.has_left(text, b""));
+    let mut rest = [0; 100];
+    assert_eq!(rt; call.source.take(&mut rest), Ok(SEVEN.len()));
+    Ok(())
+}
+
+#[test]
+fn seq_runs_the_generated_graph(rt: HostRuntime) -> Result<(), Fail> {
+    let text = output(&rt, rt.alloc(), &["make", "66"], b"")?;
+    assert!(rt; gives(&rt, rt.alloc(), &["seq"], &text, b"d64 = 65\nd65 = 74\n")?);
+    Ok(())
+}
+
+#[test]
+fn verify_make_tells_a_summary(rt: HostRuntime) -> Result<(), Fail> {
+    let summary = b"tasks 2\nprocessors 2\nmessages 0\nsteps 2\ntime 38\nsum 1\n";
+    assert!(rt; gives(&rt, rt.alloc(), &["verify-make", "2", "2"], b"", summary)?);
+    Ok(())
+}
