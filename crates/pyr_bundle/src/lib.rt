@@ -36,6 +36,3 @@ pub use raw_channel::RawChannel;
 pub use raw_datum::RawDatum;
 pub use raw_instr::RawInstr;
 pub use raw_task::RawTask;
-
-#[cfg(test)]
-mod tests;

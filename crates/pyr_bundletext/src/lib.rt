@@ -22,6 +22,3 @@ pub use bundle_text_fault::BundleTextFault;
 pub use laws::one_answer_is_told;
 pub use printing::print_bundle;
 pub use reading::read_bundle;
-
-#[cfg(test)]
-mod tests;

@@ -13,7 +13,7 @@ use pyr_bundle::{Bundle, BundleTask, Capacity, Instr, RawDatum};
 use pyr_num::{DatumId, Limits, ProcId, TaskId};
 use std::alloc::{AllocError, Global};
 
-pub(crate) fn put_datum(text: &mut Vec<u8>, datum: RawDatum) -> Result<(), AllocError>
+fn put_datum(text: &mut Vec<u8>, datum: RawDatum) -> Result<(), AllocError>
     ensures text { OnOk result (text.new.items ≡ text.old.items ++ datum_text datum) }
     ensures named { is_name datum.name ≡ true }
 {
@@ -59,7 +59,7 @@ fn put_tasks(text: &mut Vec<u8>, bundle: &Bundle) -> Result<(), AllocError>
     Ok(())
 }
 
-pub(crate) fn put_prints(text: &mut Vec<u8>, prints: &[DatumId]) -> Result<(), AllocError>
+fn put_prints(text: &mut Vec<u8>, prints: &[DatumId]) -> Result<(), AllocError>
     ensures text { OnOk result (text.new.items ≡ text.old.items
         ++ flat_map print_text (map (λ d. d.0) prints.now)) }
     ensures words { OnOk result (AllByRecursion IsWord (map (λ d. d.0) prints.now)) }
@@ -80,7 +80,7 @@ fn put_channel(text: &mut Vec<u8>, channel: Capacity) -> Result<(), AllocError>
     put_line(text, b"channel", &[from, to, u64::from(channel.capacity)])
 }
 
-pub(crate) fn put_channels(text: &mut Vec<u8>, channels: &[Capacity]) -> Result<(), AllocError>
+fn put_channels(text: &mut Vec<u8>, channels: &[Capacity]) -> Result<(), AllocError>
     ensures text { OnOk result (text.new.items ≡ text.old.items
         ++ flat_map channel_text (map raw_channel_of channels.now)) }
     ensures words { OnOk result
@@ -108,7 +108,7 @@ fn put_instr(text: &mut Vec<u8>, instr: Instr) -> Result<(), AllocError>
     }
 }
 
-pub(crate) fn put_instrs(text: &mut Vec<u8>, code: &[Instr]) -> Result<(), AllocError>
+fn put_instrs(text: &mut Vec<u8>, code: &[Instr]) -> Result<(), AllocError>
     ensures text { OnOk result (text.new.items ≡ text.old.items
         ++ flat_map instr_text (map raw_instr_of code.now)) }
     ensures words { OnOk result (AllByRecursion IsSpelledInstr (map raw_instr_of code.now)) }

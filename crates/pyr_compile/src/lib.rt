@@ -10,6 +10,3 @@ mod planning;
 pub use compiling::{compile, compile_plan};
 pub use laws::plans_complete;
 pub use planning::{Planned, plan};
-
-#[cfg(test)]
-mod tests;

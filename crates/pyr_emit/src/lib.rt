@@ -15,6 +15,3 @@ mod rising;
 
 pub use emission::emit;
 pub use laws::emissions_keep_the_meaning;
-
-#[cfg(test)]
-mod tests;

@@ -11,6 +11,3 @@ pub use ends::Ends;
 pub use heads::Heads;
 pub use making::wires;
 pub use tails::Tails;
-
-#[cfg(test)]
-mod tests;

@@ -16,6 +16,3 @@ pub use laws::{loaded_bundles_are_safe, one_answer_is_told, reasons_are_true};
 pub use load_fault::LoadFault;
 pub use loading::load;
 pub use stop::{Reason, Stop};
-
-#[cfg(test)]
-mod tests;

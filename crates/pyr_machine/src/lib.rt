@@ -21,8 +21,3 @@ pub use laws::{
 pub use loaded::Loaded;
 pub use state::{MachineLocal, State};
 pub use tags::{TagLocal, Tags};
-
-#[cfg(test)]
-mod testing;
-#[cfg(test)]
-mod tests;

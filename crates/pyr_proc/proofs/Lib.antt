@@ -9,4 +9,3 @@ pub mod TrafficLemmas
 pub mod EndLemmas
 pub mod FrameLemmas
 pub mod Linked
-pub mod TestLemmas

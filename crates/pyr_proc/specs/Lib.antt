@@ -8,4 +8,3 @@ pub mod Computing
 pub mod Fitted
 pub mod Running
 pub mod Making
-pub mod Testing

@@ -20,6 +20,3 @@ pub use laws::{ends_have_values, feeds_are_traffic};
 pub use pace::{Free, Pace};
 pub use processor::Processor;
 pub use seat::Seat;
-
-#[cfg(test)]
-mod tests;

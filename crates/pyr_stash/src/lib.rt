@@ -5,6 +5,3 @@
 mod stash;
 
 pub use stash::Stash;
-
-#[cfg(test)]
-mod tests;

@@ -9,6 +9,3 @@ mod team;
 mod workers;
 
 pub use team::{Team, run_team};
-
-#[cfg(test)]
-mod tests;

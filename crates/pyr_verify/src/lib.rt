@@ -13,6 +13,3 @@ mod verifying;
 pub use laws::one_summary;
 pub use summary::Summary;
 pub use verifying::verify_make;
-
-#[cfg(test)]
-mod tests;

@@ -1,4 +1,3 @@
 pub mod End
 pub mod InOrder
 pub mod Laws
-pub mod Testing

@@ -15,6 +15,3 @@ pub use head::Head;
 pub use laws::wire_keeps_order;
 pub use making::wire;
 pub use tail::Tail;
-
-#[cfg(test)]
-mod tests;

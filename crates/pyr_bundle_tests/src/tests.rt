@@ -1,0 +1,17 @@
+// What each file tests is told by its name.
+mod bundle;
+mod bundletext;
+mod compile;
+mod emit;
+mod ends;
+mod graphs;
+mod loader;
+mod machine;
+mod parcels;
+mod proc;
+mod reading;
+mod stash;
+mod team;
+mod texts;
+mod verify;
+mod wire;
