@@ -37,6 +37,3 @@ pub use line_fault::LineFault;
 pub use printing::print_body;
 pub use slot_names::SlotNames;
 pub use stmt::Stmt;
-
-#[cfg(test)]
-mod tests;

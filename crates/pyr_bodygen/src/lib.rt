@@ -7,6 +7,3 @@ mod laws;
 
 pub use generation::generate;
 pub use laws::{code_of_a_body_is_verified, code_runs_as_its_body};
-
-#[cfg(test)]
-mod tests;

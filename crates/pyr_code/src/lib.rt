@@ -22,6 +22,3 @@ pub use shape::Shape;
 pub use stack::MAX_HEIGHT;
 pub use steps::Steps;
 pub use verified::{Verified, verify};
-
-#[cfg(test)]
-mod tests;

@@ -12,6 +12,3 @@ mod turn;
 
 pub use clustering::cluster;
 pub use laws::{a_graph_has_one_run, runs_keep_time, steps_keep_time};
-
-#[cfg(test)]
-mod tests;

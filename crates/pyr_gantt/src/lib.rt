@@ -10,6 +10,3 @@ mod time;
 pub use bars::{BUSY, COLUMNS, IDLE};
 pub use chart::report;
 pub use time::time_of;
-
-#[cfg(test)]
-mod tests;

@@ -29,6 +29,3 @@ pub use laws::{graphs_have_no_cycle, one_fault_is_told, smallest_first_is_topolo
 pub use parts::{DatumParts, TaskParts};
 pub use placement::Placement;
 pub use plan::Plan;
-
-#[cfg(test)]
-mod tests;

@@ -31,6 +31,3 @@ pub use program::Program;
 pub use program_fault::{NameKind, ProgramFault};
 pub use reading::read_program;
 pub use running::sequential;
-
-#[cfg(test)]
-mod tests;

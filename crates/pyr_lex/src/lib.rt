@@ -26,6 +26,3 @@ pub use spanned_token::SpannedToken;
 pub use symbol::Symbol;
 pub use token::Token;
 pub use word::Word;
-
-#[cfg(test)]
-mod tests;

@@ -10,6 +10,3 @@ mod names;
 mod rule;
 
 pub use making::make;
-
-#[cfg(test)]
-mod tests;

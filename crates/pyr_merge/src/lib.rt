@@ -10,6 +10,3 @@ mod weighed;
 pub use laws::a_clustering_has_one_placement;
 pub use merging::merge;
 pub use partition::is_partition;
-
-#[cfg(test)]
-mod tests;

@@ -16,6 +16,3 @@ pub use handover::{CONSUMER, Handover, PRODUCER};
 pub use handover_local::HandoverLocal;
 pub use laws::{longest_runs_agree, run_completes, runs_are_local, step_persists, steps_commute};
 pub use net::Net;
-
-#[cfg(test)]
-mod tests;

@@ -17,6 +17,3 @@ pub use limits::{Limits, Quantity};
 pub use lists::{NameList, Outputs, TaskList, Words};
 pub use name::Name;
 pub use parcel::Parcel;
-
-#[cfg(test)]
-mod tests;

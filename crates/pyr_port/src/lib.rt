@@ -21,6 +21,3 @@ pub use sink::Sink;
 pub use source::{Failed, Source};
 pub use steady::{NullSink, SteadySource};
 pub use writing::{SinkFault, write_all};
-
-#[cfg(test)]
-mod tests;

@@ -14,6 +14,3 @@ mod urgency;
 pub use laws::a_placement_has_one_plan;
 pub use ordering::order;
 pub use placed::places_all;
-
-#[cfg(test)]
-mod tests;

@@ -1,4 +1,4 @@
-use crate::{SpannedToken, Symbol, Token, Word, depth, number, tokens, write_line};
+use pyr_lex::{LexFault, SpannedToken, Symbol, Token, Word, depth, number, tokens, write_line};
 use pyr_num::Limits;
 use std::alloc::{AllocError, Global};
 use std::process::Abort;
@@ -7,7 +7,7 @@ use std::test::Fail;
 const REFUSED: &str = "BadText { line: 7 }";
 
 // Lines, and what is read of them: each token with its span, or the refusal.
-const LINES: [(&[u8], &str); 68] = [
+const LINES: &[(&[u8], &str)] = &[
     (b"", ""),
     (b" \t\r ", ""),
     (b"#", ""),
@@ -121,9 +121,14 @@ fn shown(alloc: Global, found: &[SpannedToken]) -> Result<String, AllocError> {
     Ok(text)
 }
 
-fn read(rt: &impl Abort, alloc: Global, line: &[u8]) -> Result<String, AllocError> {
+// The tokens of a line with the number 7.
+fn tokens_of(rt: &impl Abort, alloc: Global, line: &[u8]) -> Result<Vec<SpannedToken>, LexFault> {
     assert!(rt; line.len() <= Limits::INPUT);
-    match tokens(alloc, line, 7) {
+    tokens(alloc, line, 7)
+}
+
+fn read(rt: &impl Abort, alloc: Global, line: &[u8]) -> Result<String, AllocError> {
+    match tokens_of(rt, alloc, line) {
         Ok(found) => shown(alloc, found.as_slice()),
         Err(fault) => format!(in alloc; "{fault:?}"),
     }
@@ -132,63 +137,93 @@ fn read(rt: &impl Abort, alloc: Global, line: &[u8]) -> Result<String, AllocErro
 #[test]
 fn reads_each_line(rt: HostRuntime) -> Result<(), Fail> {
     for (line, expected) in LINES {
-        assert_eq!(rt;
-            read(&rt, rt.alloc(), line)?.as_str(),
-            expected,
-            "at {line:?}"
-        );
+        let found = read(&rt, rt.alloc(), line)?;
+        assert_eq!(rt; found.as_str(), *expected, "at {line:?}");
     }
     Ok(())
 }
+
+// How many brackets a line has open at once.
+fn depth_of(rt: &impl Abort, alloc: Global, line: &[u8]) -> Result<u32, LexFault> {
+    let found = tokens_of(rt, alloc, line)?;
+    assert!(rt; found.len() <= Limits::INPUT);
+    Ok(depth(found.as_slice()))
+}
+
+// Lines, and how many of their brackets are open at once.
+const DEPTHS: [(&[u8], u32); 8] = [
+    (b"", 0),
+    (b"x", 0),
+    (b")", 0),
+    (b")))(", 1),
+    (b"()()", 1),
+    (b"([(", 3),
+    (b"x[(a + b[0])]", 3),
+    (b"(]]](", 1),
+];
 
 #[test]
 fn counts_open_brackets(rt: HostRuntime) -> Result<(), Fail> {
-    for (line, expected) in [
-        (b"".as_slice(), 0),
-        (b"x", 0),
-        (b")", 0),
-        (b")))(", 1),
-        (b"()()", 1),
-        (b"([(", 3),
-        (b"x[(a + b[0])]", 3),
-        (b"(]]](", 1),
-    ] {
-        let Ok(found) = tokens(rt.alloc(), line, 1) else {
-            return Err("no tokens")?;
-        };
-        assert_eq!(rt; depth(found.as_slice()), expected, "at {line:?}");
+    for (line, expected) in DEPTHS {
+        assert_eq!(rt; depth_of(&rt, rt.alloc(), line)?, expected, "at {line:?}");
     }
     Ok(())
 }
+
+// The canonical text of a line.
+fn written(rt: &impl Abort, alloc: Global, line: &[u8]) -> Result<Vec<u8>, Fail> {
+    let mut plain = Vec::new(alloc);
+    for spanned in &tokens_of(rt, alloc, line)? {
+        plain.push(spanned.token)?;
+    }
+    let mut out = Vec::new(alloc);
+    write_line(&mut out, plain.as_slice())?;
+    Ok(out)
+}
+
+// Lines, and their canonical texts.
+const WRITTEN: [(&[u8], &[u8]); 4] = [
+    (b"  # nothing", b"\n"),
+    (b"data\tx 1  0 # a datum", b"data x 1 0\n"),
+    (b"put x [ 0 ]=( y[ i ]==3 )", b"put x[0] = (y[i] == 3)\n"),
+    (b"set a=((1)?2<<3:(4))", b"set a = ((1) ? 2 << 3 : (4))\n"),
+];
 
 #[test]
 fn writes_canonical_lines(rt: HostRuntime) -> Result<(), Fail> {
-    for (line, expected) in [
-        (b"  # nothing".as_slice(), b"\n".as_slice()),
-        (b"data\tx 1  0 # a datum", b"data x 1 0\n"),
-        (b"put x [ 0 ]=( y[ i ]==3 )", b"put x[0] = (y[i] == 3)\n"),
-        (b"set a=((1)?2<<3:(4))", b"set a = ((1) ? 2 << 3 : (4))\n"),
-    ] {
-        let Ok(found) = tokens(rt.alloc(), line, 1) else {
-            return Err("no tokens")?;
-        };
-        let mut plain = Vec::new(rt.alloc());
-        for spanned in &found {
-            plain.push(spanned.token)?;
-        }
-        let mut out = Vec::new(rt.alloc());
-        write_line(&mut out, plain.as_slice())?;
-        assert_eq!(rt; out.as_slice(), expected, "at {line:?}");
+    for (line, expected) in WRITTEN {
+        let found = written(&rt, rt.alloc(), line)?;
+        assert_eq!(rt; found.as_slice(), expected, "at {line:?}");
     }
     Ok(())
 }
 
+// Texts, and the numbers and words that they are.
+const NUMBERS: [(&[u8], Option<u64>); 2] = [(b"40", Some(40)), (b"040", None)];
+
+const WORDS: [(&[u8], Option<Word>); 2] = [(b"frame", Some(Word::Frame)), (b"frames", None)];
+
+#[test]
+fn reads_texts(rt: HostRuntime) {
+    for (text, expected) in NUMBERS {
+        assert_eq!(rt; number(text), expected, "at {text:?}");
+    }
+    for (text, expected) in WORDS {
+        assert_eq!(rt; Word::from_text(text), expected, "at {text:?}");
+    }
+}
+
+// Words and symbols, and their texts.
+const WORD_TEXTS: [(Word, &[u8]); 2] = [(Word::Frame, b"frame"), (Word::Min, b"min")];
+
+const SYMBOL_TEXTS: [(Symbol, &[u8]); 2] = [(Symbol::ShiftLeft, b"<<"), (Symbol::Less, b"<")];
+
 #[test]
 fn tells_texts(rt: HostRuntime) {
-    assert_eq!(rt; number(b"40"), Some(40));
-    assert_eq!(rt; number(b"040"), None);
-    assert_eq!(rt; Word::from_text(b"frame"), Some(Word::Frame));
-    assert_eq!(rt; Word::from_text(b"frames"), None);
-    assert_eq!(rt; Word::Frame.text(), b"frame".as_slice());
-    assert_eq!(rt; Symbol::ShiftLeft.text(), b"<<".as_slice());
+    for (word, text) in WORD_TEXTS {
+        assert_eq!(rt; word.text(), text);
+    }
+    for (symbol, text) in SYMBOL_TEXTS {
+        assert_eq!(rt; symbol.text(), text);
+    }
 }

@@ -1,7 +1,7 @@
 use Rattle.std.proofs.Common.{◌≡◌, ◌+◌, max, drop}
 use Rattle.pyr_code.specs.Seen.{code_of}
 use Rattle.pyr_code.specs.Size.{code_nodes, code_loops, code_count, code_work}
-use Rattle.pyr_code.proofs.tests.+size.Given as goal
+use Rattle.pyr_graph_tests.proofs.tests.code.+size.Given as goal
 
 abbrev pub invariant-size_of_ops-loop-op : goal.invariant-size_of_ops-loop-op
 invariant-size_of_ops-loop-op l = record {

@@ -5,10 +5,12 @@ ghost use Rattle.pyr_code.specs.Size.{op_nodes, op_loops, op_count, op_work};
 ghost use Rattle.pyr_code.specs.Size.{code_nodes, code_loops, code_count, code_work};
 ghost use Rattle.pyr_code.specs.Size.{IsWithinLimits};
 
-use crate::{BadKind, CodeFault, Op, Shape, Steps, Verified, copy_ops, exec, exec_counted, verify};
+use pyr_code::{
+    BadKind, CodeFault, Op, Shape, Steps, Verified, copy_ops, exec, exec_counted, verify,
+};
 use pyr_num::{Bin, Cells, Limits};
 use sqlite_items::Items;
-use std::alloc::Global;
+use std::alloc::{AllocError, Global};
 use std::marker::Brand;
 use std::process::Abort;
 use std::sync::ledger::{Blank, Ledger};
@@ -94,10 +96,6 @@ fn check(rt: &impl Abort, code: Vec<Op>, shape: Shape) -> Result<Verified, CodeF
     verify(code, shape)
 }
 
-fn fault(place: u32, kind: BadKind) -> Option<CodeFault> {
-    Some(CodeFault::BadCode { place, kind })
-}
-
 const EMPTY: Shape = Shape {
     reads: 0,
     writes: 0,
@@ -111,102 +109,87 @@ const ONE_AND_ONE: Shape = Shape {
     locals: 2,
 };
 
+// The fault of a copy of this code.
+fn fault_of(
+    rt: &impl Abort,
+    alloc: Global,
+    code: &[Op],
+    shape: Shape,
+) -> Result<Option<CodeFault>, AllocError> {
+    let code = copy_ops(alloc, code)?;
+    Ok(check(rt, code, shape).err())
+}
+
 #[test]
 fn tells_the_first_fault(rt: HostRuntime) -> Result<(), Fail> {
-    let alloc = rt.alloc();
-    for (code, shape, wanted) in [
+    for (code, shape, place, kind) in [
+        ([Op::Bin(Bin::Add)].as_slice(), EMPTY, 0, BadKind::Underflow),
+        (&[Op::Push(1)], EMPTY, 1, BadKind::Height),
+        (&[Op::Push(1), Op::Load(2)], ONE_AND_ONE, 1, BadKind::Local),
+        (&[Op::Store(2)], ONE_AND_ONE, 0, BadKind::Local),
+        (&[Op::Get(2)], ONE_AND_ONE, 0, BadKind::Slot),
+        (&[Op::Put(1)], ONE_AND_ONE, 0, BadKind::Slot),
+        (&[Op::Frame, Op::Put(0)], ONE_AND_ONE, 1, BadKind::Underflow),
         (
-            vec![in alloc; Op::Bin(Bin::Add)]?,
+            &[Op::Push(1), Op::Push(1), Op::Sel],
             EMPTY,
-            fault(0, BadKind::Underflow),
-        ),
-        (
-            vec![in alloc; Op::Push(1)]?,
-            EMPTY,
-            fault(1, BadKind::Height),
-        ),
-        (
-            vec![in alloc; Op::Push(1), Op::Load(2)]?,
-            ONE_AND_ONE,
-            fault(1, BadKind::Local),
-        ),
-        (
-            vec![in alloc; Op::Store(2)]?,
-            ONE_AND_ONE,
-            fault(0, BadKind::Local),
-        ),
-        (
-            vec![in alloc; Op::Get(2)]?,
-            ONE_AND_ONE,
-            fault(0, BadKind::Slot),
-        ),
-        (
-            vec![in alloc; Op::Put(1)]?,
-            ONE_AND_ONE,
-            fault(0, BadKind::Slot),
-        ),
-        (
-            vec![in alloc; Op::Frame, Op::Put(0)]?,
-            ONE_AND_ONE,
-            fault(1, BadKind::Underflow),
-        ),
-        (
-            vec![in alloc; Op::Push(1), Op::Push(1), Op::Sel]?,
-            EMPTY,
-            fault(2, BadKind::Underflow),
+            2,
+            BadKind::Underflow,
         ),
     ] {
-        assert_eq!(rt; check(&rt, code, shape).err(), wanted);
+        let fault = fault_of(&rt, rt.alloc(), code, shape)?;
+        assert_eq!(rt; fault, Some(CodeFault::BadCode { place, kind }));
     }
     Ok(())
 }
 
-fn in_loop(alloc: Global, local: u64, turn: Vec<Op>) -> Result<Vec<Op>, Fail> {
+// A loop of three turns, with an op behind it.
+fn in_loop(alloc: Global, local: u64, turn: &[Op]) -> Result<Vec<Op>, AllocError> {
+    let turn = copy_ops(alloc, turn)?;
     Ok(vec![in alloc; Op::Loop(local, 3, Items::from_vec(turn)), Op::Frame]?)
 }
 
 #[test]
 fn walks_through_loops(rt: HostRuntime) -> Result<(), Fail> {
-    let alloc = rt.alloc();
-    for (local, turn, wanted) in [
-        (0, vec![in alloc; Op::Push(1)]?, fault(0, BadKind::Height)),
-        (
-            0,
-            vec![in alloc; Op::Push(1), Op::Load(7)]?,
-            fault(2, BadKind::Local),
-        ),
-        (2, vec![in alloc; Op::Sel]?, fault(0, BadKind::Local)),
-        (
-            0,
-            vec![in alloc; Op::Frame, Op::Store(1)]?,
-            fault(4, BadKind::Height),
-        ),
+    for (local, turn, place, kind) in [
+        (0, [Op::Push(1)].as_slice(), 0, BadKind::Height),
+        (0, &[Op::Push(1), Op::Load(7)], 2, BadKind::Local),
+        (2, &[Op::Sel], 0, BadKind::Local),
+        (0, &[Op::Frame, Op::Store(1)], 4, BadKind::Height),
     ] {
-        let code = in_loop(alloc, local, turn)?;
-        assert_eq!(rt; check(&rt, code, ONE_AND_ONE).err(), wanted);
+        let code = in_loop(rt.alloc(), local, turn)?;
+        let fault = check(&rt, code, ONE_AND_ONE).err();
+        assert_eq!(rt; fault, Some(CodeFault::BadCode { place, kind }));
     }
     Ok(())
 }
 
+// Code that pushes 64 words.
+fn tall(alloc: Global) -> Result<Vec<Op>, AllocError> {
+    let mut code = Vec::new(alloc);
+    for word in 0..64 {
+        code.push(Op::Push(word))?;
+    }
+    Ok(code)
+}
+
 #[test]
 fn holds_64_words_and_no_more(rt: HostRuntime) -> Result<(), Fail> {
-    for (last, wanted) in [
-        (Op::Load(2), fault(64, BadKind::Local)),
-        (Op::Load(1), fault(64, BadKind::Tall)),
-        (Op::Store(1), fault(65, BadKind::Height)),
+    for (last, place, kind) in [
+        (Op::Load(2), 64, BadKind::Local),
+        (Op::Load(1), 64, BadKind::Tall),
+        (Op::Store(1), 65, BadKind::Height),
     ] {
-        let mut code = Vec::new(rt.alloc());
-        for word in 0..64 {
-            code.push(Op::Push(word))?;
-        }
+        let mut code = tall(rt.alloc())?;
         code.push(last)?;
-        assert_eq!(rt; check(&rt, code, ONE_AND_ONE).err(), wanted);
+        let fault = check(&rt, code, ONE_AND_ONE).err();
+        assert_eq!(rt; fault, Some(CodeFault::BadCode { place, kind }));
     }
     Ok(())
 }
 
 // Runs code on one input of 3 words and one output of 3 words, and gives the output's first word.
-fn run(rt: &impl Abort, alloc: Global, code: &Verified, frame: u64) -> Result<u64, Fail> {
+fn run(rt: &impl Abort, alloc: Global, code: &Verified, frame: u64) -> Result<u64, AllocError> {
     let mut cells = Cells::new(alloc, 2, 6)?;
     cells.add_input(&[5, 7, 11]);
     cells.add_output(3);
@@ -216,53 +199,54 @@ fn run(rt: &impl Abort, alloc: Global, code: &Verified, frame: u64) -> Result<u6
     Ok(cells.get(1, 0))
 }
 
-#[test]
-fn runs_a_loop(rt: HostRuntime) -> Result<(), Fail> {
-    // The word below the loop's own height is summed up: 1, then 6, 13 and 24.
-    let turn = vec![in rt.alloc(); Op::Load(0), Op::Get(0), Op::Bin(Bin::Add)]?;
-    let code = vec![in rt.alloc();
+// The word below the loop's own height is summed up: 1, then 6, 13 and 24.
+fn sums_in_a_loop(alloc: Global) -> Result<Vec<Op>, AllocError> {
+    let turn = vec![in alloc; Op::Load(0), Op::Get(0), Op::Bin(Bin::Add)]?;
+    Ok(vec![in alloc;
         Op::Push(3),
         Op::Push(1),
         Op::Loop(0, 3, Items::from_vec(turn)),
         Op::Put(0),
-    ]?;
-    let copied = copy_ops(rt.alloc(), code.as_slice())?;
-    for code in [code, copied] {
-        let code = check(&rt, code, ONE_AND_ONE)?;
-        assert_eq!(rt; run(&rt, rt.alloc(), &code, 0)?, 24);
-        assert_eq!(rt; code.work(), 4 + 3 * 4);
-        assert_eq!(rt; code.height(), 3);
-        assert_eq!(rt; code.ops().len(), 4);
-    }
+    ]?)
+}
+
+// Whether that code gives the sum, in as many steps and as little room as it takes.
+fn gives_the_sum(rt: &impl Abort, alloc: Global, code: Vec<Op>) -> Result<bool, Fail> {
+    let code = check(rt, code, ONE_AND_ONE)?;
+    let sum = run(rt, alloc, &code, 0)?;
+    Ok(sum == 24 && code.work() == 4 + 3 * 4 && code.height() == 3 && code.ops().len() == 4)
+}
+
+#[test]
+fn runs_a_loop(rt: HostRuntime) -> Result<(), Fail> {
+    let code = sums_in_a_loop(rt.alloc())?;
+    let copied = copy_ops(rt.alloc(), &code)?;
+    assert!(rt; gives_the_sum(&rt, rt.alloc(), copied)?);
+    assert!(rt; gives_the_sum(&rt, rt.alloc(), code)?);
     Ok(())
+}
+
+// The output's first word, once it is set to what this code pushes.
+fn pushed(rt: &impl Abort, alloc: Global, value: &[Op]) -> Result<u64, Fail> {
+    let mut code = vec![in alloc; Op::Push(0)]?;
+    for op in copy_ops(alloc, value)? {
+        code.push(op)?;
+    }
+    code.push(Op::Put(0))?;
+    let code = check(rt, code, ONE_AND_ONE)?;
+    Ok(run(rt, alloc, &code, 8)?)
 }
 
 #[test]
 fn takes_operands_in_order(rt: HostRuntime) -> Result<(), Fail> {
-    let alloc = rt.alloc();
     for (value, wanted) in [
-        (
-            vec![in alloc; Op::Push(9), Op::Push(4), Op::Bin(Bin::Sub)]?,
-            5,
-        ),
-        (
-            vec![in alloc; Op::Push(1), Op::Push(2), Op::Push(3), Op::Sel]?,
-            2,
-        ),
-        (
-            vec![in alloc; Op::Push(0), Op::Push(2), Op::Push(3), Op::Sel]?,
-            3,
-        ),
-        (vec![in alloc; Op::Frame, Op::Store(1), Op::Load(1)]?, 8),
-        (vec![in alloc; Op::Push(2), Op::Get(1)]?, 0),
+        ([Op::Push(9), Op::Push(4), Op::Bin(Bin::Sub)].as_slice(), 5),
+        (&[Op::Push(1), Op::Push(2), Op::Push(3), Op::Sel], 2),
+        (&[Op::Push(0), Op::Push(2), Op::Push(3), Op::Sel], 3),
+        (&[Op::Frame, Op::Store(1), Op::Load(1)], 8),
+        (&[Op::Push(2), Op::Get(1)], 0),
     ] {
-        let mut code = vec![in alloc; Op::Push(0)]?;
-        for op in value {
-            code.push(op)?;
-        }
-        code.push(Op::Put(0))?;
-        let code = check(&rt, code, ONE_AND_ONE)?;
-        assert_eq!(rt; run(&rt, alloc, &code, 8)?, wanted);
+        assert_eq!(rt; pushed(&rt, rt.alloc(), value)?, wanted);
     }
     Ok(())
 }

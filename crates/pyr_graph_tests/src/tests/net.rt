@@ -1,9 +1,11 @@
-use crate::{Action, CONSUMER, Handover, HandoverLocal, Net, PRODUCER, first_enabled, run_to_end};
+use pyr_net::{
+    Action, CONSUMER, Handover, HandoverLocal, Net, PRODUCER, first_enabled, run_to_end,
+};
 use std::alloc::{AllocError, Global};
 use std::test::Fail;
 
-/// Steps to the end, one actor wherever it can and the other elsewhere, and tells in which order
-/// they made their steps.
+// Steps to the end, one actor wherever it can and the other elsewhere, and tells in which order
+// they made their steps.
 fn order_of_steps(
     alloc: Global,
     net: &mut Handover,

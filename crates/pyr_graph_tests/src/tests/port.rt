@@ -1,6 +1,6 @@
 ghost use Rattle.std.specs.Prelude.{◌≤◌};
 
-use crate::{
+use pyr_port::{
     CallPlan, MemorySink, MemorySource, NullSink, ReadFault, Sink, Source, StdSink, StdSource,
     SteadySource, read_all, write_all,
 };

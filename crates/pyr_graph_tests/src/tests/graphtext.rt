@@ -1,14 +1,9 @@
-use crate::{Program, ProgramFault, print_program, read_program, sequential};
-use pyr_num::{Limits, Name, Outputs};
+use crate::tests::programs::program_of;
+use pyr_graphtext::{ProgramFault, print_program, sequential};
+use pyr_num::{Name, Outputs};
 use std::alloc::{AllocError, Global};
 use std::process::Abort;
 use std::test::Fail;
-
-fn read(rt: &impl Abort, alloc: Global, text: &str) -> Result<Program, ProgramFault> {
-    let bytes = text.as_bytes();
-    assert!(rt; bytes.len() <= Limits::INPUT);
-    read_program(alloc, bytes)
-}
 
 // Four tasks with comments and blanks: `d` reads what `b` and `c` make of the word of `a`.
 const DIAMOND: &str = "# a diamond
@@ -67,7 +62,7 @@ print w
 #[test]
 fn prints_the_canonical_text(rt: HostRuntime) -> Result<(), Fail> {
     let alloc = rt.alloc();
-    let program = read(&rt, alloc, DIAMOND)?;
+    let program = program_of(&rt, alloc, DIAMOND)?;
     let text = print_program(alloc, &program)?;
     assert_eq!(rt; text.as_slice(), CANONICAL.as_bytes());
     Ok(())
@@ -84,7 +79,7 @@ fn is_word(outputs: &Outputs, word: u64) -> bool {
 #[test]
 fn runs_the_tasks_in_a_topological_order(rt: HostRuntime) -> Result<(), Fail> {
     let alloc = rt.alloc();
-    let program = read(&rt, alloc, DIAMOND)?;
+    let program = program_of(&rt, alloc, DIAMOND)?;
     assert!(rt; is_word(&sequential(alloc, &program, 0)?, 10));
     assert!(rt; is_word(&sequential(alloc, &program, 2)?, 16));
     Ok(())
@@ -167,7 +162,7 @@ task b 1\nreads x\nwrites y\nend\ntask c 1\nreads y\nwrites z\nend",
 fn tells_the_first_fault(rt: HostRuntime) -> Result<(), Fail> {
     let alloc = rt.alloc();
     for (text, expected) in FAULTY {
-        let Err(fault) = read(&rt, alloc, text) else {
+        let Err(fault) = program_of(&rt, alloc, text) else {
             return Err("a program")?;
         };
         assert_eq!(rt; told(alloc, &fault)?.as_str(), expected, "at {text:?}");

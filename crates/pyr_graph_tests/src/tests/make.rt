@@ -2,8 +2,8 @@ ghost use Rattle.std.specs.Prelude.{◌≡◌, ◌<◌, ◌≤◌, IfOk};
 ghost use Rattle.pyr_graphtext.specs.Canonical.{program_text};
 ghost use Rattle.pyr_make.specs.Layered.{layered_program};
 
-use crate::make;
 use pyr_graphtext::{print_program, sequential};
+use pyr_make::make;
 use pyr_num::{Limits, Outputs};
 use std::alloc::{AllocError, Global};
 use std::test::Fail;
@@ -41,11 +41,17 @@ fn are_words(outputs: &Outputs, first: u64, second: u64) -> bool {
     }
 }
 
+// What the program of so many tasks computes.
+fn computed(alloc: Global, tasks: u32) -> Result<Outputs, AllocError>
+    requires some { 0 < tasks }
+    requires few { tasks ≤ Limits.TASKS }
+{
+    sequential(alloc, &make(alloc, tasks)?, 0)
+}
+
 #[test]
 fn the_second_layer_is_computed_from_the_first(rt: HostRuntime) -> Result<(), Fail> {
-    let alloc = rt.alloc();
-    let program = make(alloc, 66)?;
-    let outputs = sequential(alloc, &program, 0)?;
+    let outputs = computed(rt.alloc(), 66)?;
     assert!(rt; are_words(&outputs, 65, 74));
     Ok(())
 }
