@@ -6,7 +6,7 @@ use Rattle.pyr_num.specs.declared.limits.TheConstants.Limits.{WORK}
 use Rattle.pyr_num.specs.declared.name.Name.{Name}
 use Rattle.pyr_body.specs.declared.line_fault.LineFault.{LineFault}
 use Rattle.pyr_body.specs.declared.line_fault.LineFault.TheVariants.{Text, Limit}
-use Rattle.pyr_body.specs.declared.counting.TheConstants.{TOO_MUCH}
+use Rattle.pyr_num.specs.declared.work.TheConstants.{TOO_MUCH}
 use Rattle.pyr_body.specs.declared.open_loop.OpenLoop.{OpenLoop}
 use Rattle.pyr_body.specs.declared.stmt.Stmt.{Stmt as StmtValue}
 use Rattle.pyr_body.specs.Tree.{Statements}

@@ -5,10 +5,7 @@ ghost use Rattle.pyr_body.specs.Size.{expr_nodes, stmt_nodes, statements_nodes};
 ghost use Rattle.pyr_body.specs.Size.{stmt_work, statements_work};
 
 use crate::{Body, Expr, Stmt};
-use pyr_num::Limits;
-
-// What stands for any work past the limit.
-const TOO_MUCH: u64 = Limits::WORK + 1;
+use pyr_num::{Limits, TOO_MUCH, loop_work};
 
 /// How many operations a run of the body makes: one for each expression and statement that it comes
 /// to, and one for each turn of a loop. It takes no memory.
@@ -90,13 +87,4 @@ fn stmt_work(statement: &Stmt) -> u64
         }
         Stmt::For(_, count, turn) => loop_work(*count, capped_work(turn.as_slice())),
     }
-}
-
-// The work of a loop, from its count and the work of a turn.
-fn loop_work(count: u64, turn: u64) -> u64
-    requires { turn ≤ TOO_MUCH }
-    ensures { result ≡ min (1 + count * (1 + turn)) TOO_MUCH }
-{
-    let turns = count.saturating_mul(1 + turn);
-    u64::min(turns.saturating_add(1), TOO_MUCH)
 }

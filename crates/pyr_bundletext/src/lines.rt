@@ -4,19 +4,9 @@ ghost use Rattle.std.specs.List.{AllByRecursion};
 ghost use Rattle.pyr_bundletext.specs.Text.{spaced, line};
 ghost use Rattle.pyr_bundletext.specs.Spelled.{IsWord};
 
-use itoa::Buffer;
+use pyr_lex::put_number;
 use pyr_num::DatumId;
 use std::alloc::AllocError;
-
-// A number behind a space.
-pub(crate) fn put_number(text: &mut Vec<u8>, number: u64) -> Result<(), AllocError>
-    ensures { OnOk result (text.new.items ≡ text.old.items ++ spaced number) }
-{
-    let mut buffer = Buffer::new();
-    text.push(b' ')?;
-    text.extend_from_slice(buffer.format(number).as_bytes())?;
-    Ok(())
-}
 
 #[tactic(auto, using(crate::proofs::PrintingLemmas::words_from))]
 pub(crate) fn put_line(text: &mut Vec<u8>, word: &[u8], numbers: &[u64]) -> Result<(), AllocError>

@@ -8,7 +8,7 @@ ghost use Rattle.pyr_bundletext.specs.Faults.{nodes_in};
 use crate::open_loop::OpenLoop;
 use crate::plain_op::PlainOp;
 use pyr_code::Op;
-use pyr_num::Limits;
+use pyr_num::{Limits, TOO_MUCH, loop_work};
 use sqlite_items::Items;
 use std::alloc::{AllocError, Global};
 use std::marker::Model;
@@ -125,9 +125,6 @@ impl OpenCode {
     }
 }
 
-// What stands for any work past the limit.
-const TOO_MUCH: u64 = Limits::WORK + 1;
-
 #[cycle(work)]
 fn capped_work(ops: &[Op]) -> u64
     ensures { result ≡ min (code_work (code_of ops.now)) TOO_MUCH }
@@ -147,13 +144,4 @@ fn op_work(op: &Op) -> u64
         Op::Loop(_, count, turn) => loop_work(*count, capped_work(turn.as_slice())),
         _ => 1,
     }
-}
-
-// The work of a loop, from its count and the work of a turn.
-fn loop_work(count: u64, turn: u64) -> u64
-    requires { turn ≤ TOO_MUCH }
-    ensures { result ≡ min (1 + count * (1 + turn)) TOO_MUCH }
-{
-    let turns = count.saturating_mul(1 + turn);
-    u64::min(turns.saturating_add(1), TOO_MUCH)
 }

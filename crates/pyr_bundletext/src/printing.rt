@@ -7,9 +7,10 @@ ghost use Rattle.pyr_bundletext.specs.Text.{datum_text, task_text, print_text, c
 ghost use Rattle.pyr_bundletext.specs.Spelled.{IsWord, IsSpelledTask, IsSpelledChannel, IsSpelledInstr};
 ghost use Rattle.pyr_bundletext.specs.Answer.{StandsFor};
 
-use crate::lines::{put_datum_ids, put_line, put_number};
+use crate::lines::{put_datum_ids, put_line};
 use crate::ops::put_ops;
 use pyr_bundle::{Bundle, BundleTask, Capacity, Instr, RawDatum};
+use pyr_lex::put_number;
 use pyr_num::{DatumId, Limits, ProcId, TaskId};
 use std::alloc::{AllocError, Global};
 

@@ -6,10 +6,11 @@ use Rattle.pyr_graph.specs.declared.clustering.Step.{Step}
 use Rattle.pyr_graph.specs.declared.clustering.Clustering.{Clustering}
 use Rattle.pyr_graph.specs.Clusters.{cluster_numbers}
 use Rattle.pyr_graph.specs.System.{System, task_count}
-use Rattle.pyr_levels.specs.Path.{Weighted, IsBlevel, IsTlevel, IsParallelTime}
+use Rattle.pyr_levels.specs.Path.{Weighted, IsParallelTime}
 use Rattle.pyr_levels.specs.Levels.{task_graph, AreBlevels}
 use Rattle.pyr_levels.specs.Scheduled.{scheduled_graph, AreTlevels, clusters_with}
 use Rattle.pyr_levels.proofs.ClusterLemmas.{and-true}
+use Rattle.pyr_levels.proofs.Unique.{IsBlevel-same, IsTlevel-same, same-list}
 use Rattle.pyr_dsc.specs.State.{State, is_examined, predecessors}
 use Rattle.pyr_dsc.specs.Rules.{IsStep, chosen, number_with, start_with}
 use Rattle.pyr_dsc.specs.Run.{state, AreSteps, AllExamined, IsRun}
@@ -20,31 +21,11 @@ use Rattle.pyr_dsc.proofs.PartitionLemmas.{each-number}
 same-number : (a b : ℕ) → a ≤ b → b ≤ a → a ≡ b
 same-number a b le ge = omega arith
 
-IsBlevel-same : (g : Weighted) (t a b : ℕ) → IsBlevel g t a → IsBlevel g t b → a ≡ b
-IsBlevel-same g t a b one other =
-    let (rest, path, sum) = one.reached in
-    let (rest', path', sum') = other.reached in
-    omega (arith, sum, sum', other.greatest rest path, one.greatest rest' path')
-
-IsTlevel-same : (g : Weighted) (t a b : ℕ) → IsTlevel g t a → IsTlevel g t b → a ≡ b
-IsTlevel-same g t a b one other =
-    let (front, path, sum) = one.reached in
-    let (front', path', sum') = other.reached in
-    omega (arith, sum, sum', other.greatest front path, one.greatest front' path')
-
 pub IsParallelTime-same : (g : Weighted) (a b : ℕ) → IsParallelTime g a → IsParallelTime g b → a ≡ b
 IsParallelTime-same g a b one other =
     let (path, is, sum) = one.reached in
     let (path', is', sum') = other.reached in
     omega (arith, sum, sum', other.greatest path is, one.greatest path' is')
-
--- lists of one length with the same numbers
-same-list : (xs ys : List ℕ) → length xs ≡ length ys → ((t : ℕ) → t < length xs → slice_index xs t ≡ slice_index ys t) → xs ≡ ys
-same-list [] [] same each = refl
-same-list [] (y ∷ ys) same each = absurd (omega arith)
-same-list (x ∷ xs) [] same each = absurd (omega arith)
-same-list (x ∷ xs) (y ∷ ys) same each =
-    rw (each 0 (omega arith), same-list xs ys (omega arith) (λ t inside. each (suc t) (omega (arith, inside))))
 
 AreBlevels-same : (s : System) (xs ys : List ℕ) → AreBlevels s xs → AreBlevels s ys → xs ≡ ys
 AreBlevels-same s xs ys one other = same-list xs ys (one.full ∙ sym other.full) (λ t inside.

@@ -4,7 +4,6 @@
 
 mod bars;
 mod chart;
-mod decimals;
 mod time;
 
 pub use bars::{BUSY, COLUMNS, IDLE};

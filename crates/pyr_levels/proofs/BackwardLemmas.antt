@@ -1,41 +1,38 @@
--- The levels of the last tasks of an order, and of one task more.
-use Rattle.std.proofs.Common.{◌≡◌, ◌≢◌, ℕ, ◌+◌, ◌<◌, ◌≤◌, List, length, set, arith, inl, inr, get_or, get_or-set_other, get_or-set_same, length-set}
-use Rattle.std.proofs.lemmas.List.{get_or-map}
+-- The bottom levels, in any weighing of the graph, of the last tasks of an order, and of one task more.
+use Rattle.std.proofs.Common.{◌≡◌, ◌≢◌, ℕ, ◌+◌, ◌<◌, ◌≤◌, List, length, set, arith, inl, inr, get_or-set_other, get_or-set_same, length-set}
 use Rattle.std.proofs.lemmas.Bool.{cases_eq}
 use Rattle.std.specs.Prelude.{slice_index}
 use Rattle.pyr_seq.specs.Walk.{IsTopological}
-use Rattle.pyr_num.specs.declared.ids.TaskId.{TaskId}
-use Rattle.pyr_graph.specs.System.{System, task_count, task_numbers, IsEdge}
-use Rattle.pyr_graph.specs.Bounds.{IsWithinLimits}
-use Rattle.pyr_levels.specs.Path.{IsBlevel}
-use Rattle.pyr_levels.specs.Levels.{task_graph, AreBlevels, longest}
-use Rattle.pyr_levels.proofs.Bounds.{IsBlevel-bound, place_of}
+use Rattle.pyr_graph.specs.System.{System, task_count, IsEdge}
+use Rattle.pyr_levels.specs.Path.{Weighted, IsBlevel}
+use Rattle.pyr_levels.specs.Levels.{longest}
+use Rattle.pyr_levels.proofs.Places.{place_of}
 
 -- the tasks from this place of the order on have their levels, and the others have 0
-pub record IsDoneFrom (s : System) (order : List ℕ) (place : ℕ) (levels : List ℕ) : Type 0 where
+pub record IsDoneFrom (s : System) (g : Weighted) (order : List ℕ) (place : ℕ) (levels : List ℕ) : Type 0 where
   pub full : length levels ≡ task_count s
-  pub done : (i : ℕ) → place ≤ i → i < task_count s → IsBlevel (task_graph s) (slice_index order i) (slice_index levels (slice_index order i))
+  pub done : (i : ℕ) → place ≤ i → i < task_count s → IsBlevel g (slice_index order i) (slice_index levels (slice_index order i))
   pub small : (u : ℕ) → slice_index levels u ≤ longest
 
-module _ (s : System) (order : List ℕ) (limits : IsWithinLimits s) (top : IsTopological (task_count s) (IsEdge s) order) where
+module _ (s : System) (g : Weighted) (order : List ℕ) (top : IsTopological (task_count s) (IsEdge s) order) where
   -- the tasks that read from the task before this place have their levels
-  pub IsDoneFrom-later : (place next : ℕ) (levels : List ℕ) → place ≡ next + 1 → next < task_count s → IsDoneFrom s order place levels
-      → (u : ℕ) → u < task_count s → IsEdge s (slice_index order next) u → IsBlevel (task_graph s) u (slice_index levels u)
+  pub IsDoneFrom-later : (place next : ℕ) (levels : List ℕ) → place ≡ next + 1 → next < task_count s → IsDoneFrom s g order place levels
+      → (u : ℕ) → u < task_count s → IsEdge s (slice_index order next) u → IsBlevel g u (slice_index levels u)
   IsDoneFrom-later place next levels is next_in before u u_in link =
       let (j, j_in, there) = place_of (task_count s) (IsEdge s) order top u u_in in
       let later : next < j = top.before next j next_in j_in (rw there link) in
       rw there at (before.done j (omega arith) j_in)
 
   pub IsDoneFrom-step : (place next level : ℕ) (levels : List ℕ) → place ≡ next + 1 → next < task_count s → slice_index order next < task_count s
-      → IsBlevel (task_graph s) (slice_index order next) level → IsDoneFrom s order place levels
-      → IsDoneFrom s order next (set levels (slice_index order next) level)
-  IsDoneFrom-step place next level levels is next_in task_in here before = record { full = simp length-set before.full; done = done'; small = small' }
+      → IsBlevel g (slice_index order next) level → level ≤ longest → IsDoneFrom s g order place levels
+      → IsDoneFrom s g order next (set levels (slice_index order next) level)
+  IsDoneFrom-step place next level levels is next_in task_in here low before = record { full = simp length-set before.full; done = done'; small = small' }
     where
       inside : slice_index order next < length levels
       inside = omega (arith, before.full)
 
-      done' : (i : ℕ) → next ≤ i → i < task_count s → IsBlevel (task_graph s) (slice_index order i) (slice_index (set levels (slice_index order next) level) (slice_index order i))
-      done' i low high =
+      done' : (i : ℕ) → next ≤ i → i < task_count s → IsBlevel g (slice_index order i) (slice_index (set levels (slice_index order next) level) (slice_index order i))
+      done' i least high =
           elim (cases_eq i next) [
             | inl same ↦ rw same (rw (get_or-set_same levels (slice_index order next) level 0 inside) here)
             | inr apart ↦
@@ -46,14 +43,9 @@ module _ (s : System) (order : List ℕ) (limits : IsWithinLimits s) (top : IsTo
       small' : (u : ℕ) → slice_index (set levels (slice_index order next) level) u ≤ longest
       small' u =
           elim (cases_eq u (slice_index order next)) [
-            | inl same ↦ rw same (rw (get_or-set_same levels (slice_index order next) level 0 inside) (IsBlevel-bound s order limits top (slice_index order next) level task_in here))
+            | inl same ↦ rw same (rw (get_or-set_same levels (slice_index order next) level 0 inside) low)
             | inr apart ↦ rw (get_or-set_other levels (slice_index order next) u level 0 apart) (before.small u)
           ]
 
-  pub IsDoneFrom-all : (levels : List ℕ) → IsDoneFrom s order 0 levels → AreBlevels s levels
-  IsDoneFrom-all levels before = record { full = before.full; each = λ t t_in. let (i, i_in, here) = place_of (task_count s) (IsEdge s) order top t t_in in rw here at (before.done i (omega arith) i_in) }
-
--- the number of the task at a place
-pub number_at : (order : List TaskId) (i : ℕ) → i < length order
-    → slice_index (task_numbers order) i ≡ (get_or order i (record { 0 = 0 })).0
-number_at order i inside = get_or-map (λ (t : TaskId). t.0) order i (record { 0 = 0 }) 0 inside
+  pub IsDoneFrom-all : (levels : List ℕ) → IsDoneFrom s g order 0 levels → (t : ℕ) → t < task_count s → IsBlevel g t (slice_index levels t)
+  IsDoneFrom-all levels before t t_in = let (i, i_in, here) = place_of (task_count s) (IsEdge s) order top t t_in in rw here at (before.done i (omega arith) i_in)

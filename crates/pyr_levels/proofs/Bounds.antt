@@ -8,13 +8,7 @@ use Rattle.pyr_graph.specs.Bounds.{IsWithinLimits}
 use Rattle.pyr_levels.specs.Path.{IsPath, path_sum, IsBlevel}
 use Rattle.pyr_levels.specs.Levels.{task_graph, heaviest, longest}
 use Rattle.pyr_levels.proofs.Paths.{IsPath-head}
-
--- the place of a task in a topological order
-pub place_of : (count : ℕ) (IsEdge : ℕ → ℕ → Type 0) (order : List ℕ) → IsTopological count IsEdge order
-    → (t : ℕ) → t < count → (i : ℕ) × (i < count) × (slice_index order i ≡ t)
-place_of count IsEdge order top t t_in =
-    let (i, inside, here) = top.each t t_in in
-    (i, omega (arith, top.full), sym (get_or_default_zero order i t inside) ∙ here)
+use Rattle.pyr_levels.proofs.Places.{place_of}
 
 module _ (s : System) (order : List ℕ) (limits : IsWithinLimits s)
     (top : IsTopological (task_count s) (IsEdge s) order) where

@@ -3,8 +3,8 @@ ghost use Rattle.std.specs.Prelude.{◌≡◌, [], ◌∷◌, ◌++◌, OnOk};
 ghost use Rattle.pyr_lex.specs.Token.{IsToken, AreTokens, token_text};
 ghost use Rattle.pyr_lex.specs.Spacing.{is_tight, is_tight_behind, is_tight_before, canonical_line};
 
+use crate::decimals::put_decimal;
 use crate::{Symbol, Token};
-use itoa::Buffer;
 use std::alloc::AllocError;
 
 /// Appends the canonical text of a line with these tokens, and its line feed.
@@ -33,10 +33,7 @@ fn write_token(out: &mut Vec<u8>, token: Token) -> Result<(), AllocError>
 {
     match token {
         Token::Name(name) => out.extend_from_slice(name.bytes()),
-        Token::Number(number) => {
-            let mut buffer = Buffer::new();
-            out.extend_from_slice(buffer.format(number).as_bytes())
-        }
+        Token::Number(number) => put_decimal(out, number),
         Token::Word(word) => out.extend_from_slice(word.text()),
         Token::Symbol(symbol) => out.extend_from_slice(symbol.text()),
     }

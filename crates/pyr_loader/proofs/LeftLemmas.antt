@@ -24,6 +24,7 @@ use Rattle.pyr_machine.proofs.Tallies.{any_cons, holds_some, some_holds, sum_som
 use Rattle.pyr_machine.proofs.Places.{passed_within}
 use Rattle.pyr_machine.proofs.Traffic.{past}
 use Rattle.pyr_machine.proofs.Output.{stands_within}
+use Rattle.pyr_machine.proofs.Steady.{sum_below-list}
 use Rattle.pyr_loader.specs.declared.leftover.Unreceived.{Unreceived}
 use Rattle.pyr_loader.specs.Leftover.{IsUnderway, IsFirstLeft}
 use Rattle.pyr_loader.specs.Unreceived.{is_received, IsFirst, HasNone}
@@ -66,19 +67,6 @@ take_past [] (suc n) e = refl
 take_past (x ∷ xs) zero e = absurd (none-some x (sym e))
 take_past (x ∷ xs) (suc n) e = ap (λ ys. x ∷ ys) (take_past xs n e)
 
--- a sum over the numbers below a list's length is that over the list
-sum_below-take : {X : Type 0} (f : X → ℕ) (xs : List X) (d : X) (n : ℕ) → n ≤ length xs → sum_below n (λ q. f (slice_index_or xs q d)) ≡ sum_by f (take n xs)
-sum_below-take f [] d zero l = refl
-sum_below-take f (x ∷ xs) d zero l = refl
-sum_below-take f xs d (suc n) l =
-    ap (λ m. m + f (get_or xs n d)) (sum_below-take f xs d n (omega arith))
-    ∙ sym (sum_by_push f (take n xs) (get_or xs n d))
-    ∙ ap (sum_by f) (sym (ap (λ k. take k xs) (sym (add-one n)) ∙ take_more xs n d (omega arith)))
-
-take_all : {X : Type 0} (xs : List X) → take (length xs) xs ≡ xs
-take_all [] = refl
-take_all (x ∷ xs) = ap (λ ys. x ∷ ys) (take_all xs)
-
 sum_same : (n : ℕ) (f g : ℕ → ℕ) → ((q : ℕ) → f q ≡ g q) → sum_below n f ≡ sum_below n g
 sum_same zero f g h = refl
 sum_same (suc n) f g h = let a = sum_same n f g h in let c = h n in omega (arith, a, c)
@@ -101,7 +89,7 @@ send_tally p d code = is_count_by (tally (is_send p d)) (is_send_of p d) refl on
 sent_once : (b : Parts) (p d : ℕ) → IsWellFormed b → sum_below (processor_count b) (λ q. tally (is_send p d) (code_at b q)) ≤ 1
 sent_once b p d well =
     let e = sum_same (processor_count b) (λ q. tally (is_send p d) (code_at b q)) (λ q. count_by (is_send_of p d) (code_at b q)) (λ q. send_tally p d (code_at b q)) in
-    let f = sum_below-take (count_by (is_send_of p d)) b.code [] (length b.code) (omega arith) ∙ ap (sum_by (count_by (is_send_of p d))) (take_all b.code) in
+    let f = sum_below-list (count_by (is_send_of p d)) b.code [] in
     let m = well.sends_once p d in
     omega (arith, e, f, m)
 

@@ -8,6 +8,7 @@ mod channel;
 mod computing;
 mod laws;
 mod loaded;
+mod room;
 mod start;
 mod state;
 mod station;
@@ -19,5 +20,6 @@ pub use laws::{
     tags_follow_state,
 };
 pub use loaded::Loaded;
+pub use room::{Room, room_for};
 pub use state::{MachineLocal, State};
 pub use tags::{TagLocal, Tags};

@@ -12,7 +12,8 @@ ghost use Rattle.pyr_machine.specs.Good.{IsDone};
 ghost use Rattle.pyr_machine.specs.Follow.{world_map};
 ghost use Rattle.pyr_machine.specs.State.{numbers, words_at, with_words, HasLengths, IsStated, IsRoomy, ComesTo, CanFinish, stored_word};
 
-use crate::computing::{compute, room_of};
+use crate::computing::compute;
+use crate::room::room_of;
 use crate::start::fresh_stations;
 use crate::station::Station;
 use crate::work::{action_of, can_step, instr_of, make_step};

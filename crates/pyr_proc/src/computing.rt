@@ -13,10 +13,9 @@ ghost use Rattle.pyr_proc.specs.Entries.{store_of, entry};
 ghost use Rattle.pyr_proc.specs.Computing.{size_at, AreSized, CanWrite, FillsIn};
 
 use crate::entry::Entry;
-use crate::store::overwrite;
 use pyr_bundle::Bundle;
 use pyr_code::exec;
-use pyr_num::{Cells, DatumId, TaskId};
+use pyr_num::{Cells, DatumId, TaskId, overwrite};
 
 // Adds the words of these data as inputs.
 fn load(bundle: &Bundle, reads: &[DatumId], entries: &[Entry], cells: &mut Cells)

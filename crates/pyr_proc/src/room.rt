@@ -1,54 +1,12 @@
 // The memory that the tasks of one processor need to be executed.
-ghost use Rattle.std.specs.Prelude.{◌≡◌, ◌<◌, ◌≤◌, ◌*◌, length, sum_by};
-ghost use Rattle.pyr_num.specs.declared.limits.TheConstants.Limits.{LENGTH, WRITES};
-ghost use Rattle.pyr_bundle.specs.Parts.{processor_count, task_count, datum_count, code_at, length_of};
-ghost use Rattle.pyr_machine.specs.Station.{AllBelow};
-ghost use Rattle.pyr_machine.specs.State.{numbers, task_slots, task_words};
+ghost use Rattle.std.specs.Prelude.{◌<◌, length};
+ghost use Rattle.pyr_bundle.specs.Parts.{processor_count, code_at};
 ghost use Rattle.pyr_proc.specs.Fitted.{HasRoom};
 ghost use Rattle.pyr_proc.specs.Making.{IsKnown, HasRoomFor};
 
 use pyr_bundle::{Bundle, Instr};
-use pyr_num::{DatumId, ProcId, TaskId};
-
-/// How many lists and words the task with the most of each needs.
-#[derive(Clone, Copy, Debug)]
-pub struct Room {
-    /// Reads and writes of one task.
-    pub slots: u32,
-    /// Their words.
-    pub words: u32,
-}
-
-// The words of these data.
-fn words_of(bundle: &Bundle, datums: &[DatumId]) -> u32
-    requires known { AllBelow (datum_count bundle.now) datums.now }
-    requires few { length datums.now ≤ WRITES }
-    ensures count { result ≡ sum_by (length_of bundle.now) (numbers datums.now) }
-    ensures few { result ≤ WRITES * LENGTH }
-{
-    bundle.well_formed();
-    let mut count = 0;
-    for d in datums {
-        count += bundle.datum(*d).length;
-    }
-    count
-}
-
-// The room that a task needs.
-fn room_for(bundle: &Bundle, t: TaskId) -> Room
-    requires { t.0 < task_count bundle.now }
-    ensures slots { result.slots ≡ task_slots bundle.now t.0 }
-    ensures words { result.words ≡ task_words bundle.now t.0 }
-{
-    bundle.well_formed();
-    let task = bundle.task(t);
-    let reads = task.reads.as_slice();
-    let writes = task.writes.as_slice();
-    Room {
-        slots: reads.len() as u32 + writes.len() as u32,
-        words: words_of(bundle, reads) + words_of(bundle, writes),
-    }
-}
+use pyr_machine::{Room, room_for};
+use pyr_num::ProcId;
 
 // The room that an instruction needs, which is some for an execution alone.
 fn room_at(bundle: &Bundle, instr: Instr) -> Room

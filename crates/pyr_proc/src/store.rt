@@ -5,7 +5,7 @@ ghost use Rattle.pyr_machine.specs.Parcels.{parcel_tag, words_in};
 ghost use Rattle.pyr_proc.specs.Entries.{store_of, entry, entry_at};
 
 use crate::entry::Entry;
-use pyr_num::{DatumId, Words};
+use pyr_num::{DatumId, Words, overwrite};
 use sqlite_items::at;
 
 /// Puts the words of a datum into the store. They are moved.
@@ -28,16 +28,6 @@ pub fn words_of(entries: &[Entry], d: DatumId) -> Option<&[u64]>
         Some(entry.words.as_slice())
     } else {
         None
-    }
-}
-
-/// Puts these words in place of those that stand in a list, which has as many.
-pub fn overwrite(words: &mut Words, from: &[u64])
-    requires { length from.now ≡ length words.old }
-    ensures { words.new ≡ from.now }
-{
-    for i in 0..from.len() {
-        words.set(i, from[i]);
     }
 }
 

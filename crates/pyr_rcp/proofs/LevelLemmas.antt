@@ -1,4 +1,4 @@
--- The mapped bottom levels: the step back, and the levels of the last tasks of an order.
+-- The mapped bottom levels: the step back, and how great they are.
 use Rattle.std.proofs.Common.{◌≡◌, ◌≢◌, ℕ, ◌+◌, ◌*◌, ◌<◌, ◌≤◌, ◌⊎◌, inl, inr, Bool, true, false, cond, List, [], ◌∷◌, length, get_or, set, arith, subst, get_or-set_other, get_or-set_same, length-set}
 use Rattle.std.specs.Prelude.{slice_index, Any, All}
 use Rattle.std.proofs.lemmas.Bool.{cases_eq}
@@ -9,7 +9,7 @@ use Rattle.pyr_graph.specs.System.{System, task_count, cost_of, weight_of, IsEdg
 use Rattle.pyr_graph.specs.Bounds.{IsWithinLimits}
 use Rattle.pyr_levels.specs.Path.{IsPath, path_sum, IsBlevel}
 use Rattle.pyr_levels.specs.Levels.{heaviest, longest}
-use Rattle.pyr_rcp.proofs.Places.{place_of}
+use Rattle.pyr_levels.proofs.Places.{place_of}
 use Rattle.pyr_levels.proofs.Paths.{IsPath-head, blevel_step}
 use Rattle.pyr_rcp.specs.Order.{same_processor, mapped_weight, placed_graph, AreMappedBlevels}
 use Rattle.pyr_rcp.specs.Passes.{way}
@@ -55,12 +55,6 @@ module _ (s : System) (placement : Placement) (t m : ℕ) (levels : List ℕ) (e
   IsBlevel-from_ways t_in later above reached =
       blevel_step (placed_graph s placement) t m (slice_index levels) t_in later (above_link above) (reached_link reached)
 
--- the tasks from this place of the order on have their levels, and the others have 0
-pub record IsMappedFrom (s : System) (placement : Placement) (order : List ℕ) (place : ℕ) (levels : List ℕ) : Type 0 where
-  pub full : length levels ≡ task_count s
-  pub done : (i : ℕ) → place ≤ i → i < task_count s → IsBlevel (placed_graph s placement) (slice_index order i) (slice_index levels (slice_index order i))
-  pub small : (u : ℕ) → slice_index levels u ≤ longest
-
 module _ (s : System) (placement : Placement) (order : List ℕ) (limits : IsWithinLimits s) (top : IsTopological (task_count s) (IsEdge s) order) where
   path_sum-bound : (t : ℕ) (rest : List ℕ) (i : ℕ) → i < task_count s → slice_index order i ≡ t
       → IsPath (placed_graph s placement) (t ∷ rest)
@@ -78,42 +72,3 @@ module _ (s : System) (placement : Placement) (order : List ℕ) (limits : IsWit
       let (rest, path, sum) = is.reached in
       let (i, i_in, here) = place_of (task_count s) (IsEdge s) order top t t_in in
       omega (arith, path_sum-bound t rest i i_in here path, sum, limits.tasks)
-
-  -- the tasks that read from the task before this place have their levels
-  pub IsMappedFrom-later : (place next : ℕ) (levels : List ℕ) → place ≡ next + 1 → next < task_count s → IsMappedFrom s placement order place levels
-      → (u : ℕ) → u < task_count s → IsEdge s (slice_index order next) u → IsBlevel (placed_graph s placement) u (slice_index levels u)
-  IsMappedFrom-later place next levels is next_in before u u_in link =
-      let (j, j_in, there) = place_of (task_count s) (IsEdge s) order top u u_in in
-      let later : next < j = top.before next j next_in j_in (rw there link) in
-      rw there at (before.done j (omega arith) j_in)
-
-  pub IsMappedFrom-step : (place next level : ℕ) (levels : List ℕ) → place ≡ next + 1 → next < task_count s → slice_index order next < task_count s
-      → IsBlevel (placed_graph s placement) (slice_index order next) level → IsMappedFrom s placement order place levels
-      → IsMappedFrom s placement order next (set levels (slice_index order next) level)
-  IsMappedFrom-step place next level levels is next_in task_in here before = record { full = simp length-set before.full; done = done'; small = small' }
-    where
-      inside : slice_index order next < length levels
-      inside = omega (arith, before.full)
-
-      done' : (i : ℕ) → next ≤ i → i < task_count s
-          → IsBlevel (placed_graph s placement) (slice_index order i) (slice_index (set levels (slice_index order next) level) (slice_index order i))
-      done' i low high =
-          elim (cases_eq i next) [
-            | inl same ↦ rw same (rw (get_or-set_same levels (slice_index order next) level 0 inside) here)
-            | inr apart ↦
-                let other : slice_index order i ≢ slice_index order next = λ e. apart (top.once i next high next_in e) in
-                rw (get_or-set_other levels (slice_index order next) (slice_index order i) level 0 other) (before.done i (omega arith) high)
-          ]
-
-      small' : (u : ℕ) → slice_index (set levels (slice_index order next) level) u ≤ longest
-      small' u =
-          elim (cases_eq u (slice_index order next)) [
-            | inl same ↦ rw same (rw (get_or-set_same levels (slice_index order next) level 0 inside) (IsBlevel-low (slice_index order next) level task_in here))
-            | inr apart ↦ rw (get_or-set_other levels (slice_index order next) u level 0 apart) (before.small u)
-          ]
-
-  pub IsMappedFrom-all : (levels : List ℕ) → IsMappedFrom s placement order 0 levels → AreMappedBlevels s placement levels
-  IsMappedFrom-all levels before = record {
-    full = before.full;
-    each = λ t t_in. let (i, i_in, here) = place_of (task_count s) (IsEdge s) order top t t_in in rw here at (before.done i (omega arith) i_in);
-  }

@@ -1,5 +1,3 @@
-mod Longest
-pub mod Places
 mod LevelLemmas
 pub mod ReadyLemmas
 pub mod StartLemmas

@@ -17,7 +17,7 @@ use Rattle.pyr_dsc.proofs.HeadLemmas.{kept-held}
 use Rattle.pyr_rcp.specs.Order.{Placing, processor_of, mapped_weight, processor_tasks, predecessors, end_after, end_of, arrival, latest_arrival, placing_at}
 use Rattle.pyr_rcp.specs.Mapped.{FollowsOnSome, mapped_graph, AreMappedTlevels}
 use Rattle.pyr_rcp.specs.Passes.{AreSteps}
-use Rattle.pyr_rcp.proofs.Places.{place_of}
+use Rattle.pyr_levels.proofs.Places.{place_of}
 use Rattle.pyr_rcp.proofs.ReadyLemmas.{predecessor-held, predecessor-edge}
 use Rattle.pyr_rcp.proofs.StartLemmas.{greatest-ge, greatest-reached, last-placed}
 use Rattle.pyr_rcp.proofs.StepLemmas.{step-task, step-new, step-before, earlier, distinct, IsTopological-from_steps}

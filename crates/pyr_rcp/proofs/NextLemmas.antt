@@ -15,7 +15,7 @@ use Rattle.pyr_rcp.specs.declared.ready.Head.{Head}
 use Rattle.pyr_rcp.specs.Order.{Placing, IsPlaced, processor_of, processor_tasks, is_placed, is_ready, ready_tasks, level, end_after, end_of, latest_arrival, earliest_start, IsNoLater, IsNext}
 use Rattle.pyr_rcp.specs.Passes.{placing, AreTables}
 use Rattle.pyr_rcp.specs.Queues.{IsNotAfter, IsBest, IsQueueOf, Waits, AreQueues, AreReady, AreStarted}
-use Rattle.pyr_rcp.proofs.Places.{place_of}
+use Rattle.pyr_levels.proofs.Places.{place_of}
 use Rattle.pyr_rcp.proofs.ReadyLemmas.{ready_tasks-known, ready_tasks-from, is_ready-new, is_ready-before, is_ready-from, all-before}
 use Rattle.pyr_rcp.proofs.StartLemmas.{processor_tasks-other, last-here, latest-same, end-same}
 use Rattle.pyr_rcp.proofs.StepLemmas.{step-before, earlier}

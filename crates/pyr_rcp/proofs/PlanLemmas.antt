@@ -14,7 +14,7 @@ use Rattle.pyr_levels.specs.Levels.{heaviest, longest}
 use Rattle.pyr_rcp.specs.Order.{processor_of, is_placed, IsOrdered}
 use Rattle.pyr_rcp.specs.Mapped.{AreMappedTlevels, AreFinishes}
 use Rattle.pyr_rcp.specs.Passes.{placing, AreSteps, AreTables}
-use Rattle.pyr_rcp.proofs.Places.{place_of}
+use Rattle.pyr_levels.proofs.Places.{place_of}
 use Rattle.pyr_rcp.proofs.StepLemmas.{step-task, few, IsTopological-from_steps, finish-low, ends-before_start}
 use Rattle.pyr_rcp.proofs.MappedLemmas.{AreMappedTlevels-from_steps}
 

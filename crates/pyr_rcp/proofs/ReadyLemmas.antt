@@ -10,24 +10,9 @@ use Rattle.pyr_levels.specs.Scheduled.{holds}
 use Rattle.pyr_levels.proofs.ScheduledLemmas.{or-true}
 use Rattle.pyr_levels.proofs.ClusterLemmas.{and-true, both-true}
 use Rattle.pyr_dsc.specs.State.{has_edge}
+use Rattle.pyr_dsc.proofs.FreeLemmas.{list_all-holds, holds-list_all}
 use Rattle.pyr_dsc.proofs.PredecessorLemmas.{kept-number, number-kept, has_edge-IsEdge, IsEdge-has_edge}
 use Rattle.pyr_rcp.specs.Order.{Placing, is_placed, predecessors, is_ready, ready_tasks}
-
--- a test of all that a list holds
-pub list_all-holds : (p : ℕ → Bool) (xs : List ℕ) → ((t : ℕ) → holds xs t ≡ true → p t ≡ true) → list_all p xs ≡ true
-list_all-holds p [] all = refl
-list_all-holds p (x ∷ xs) all =
-    let here : p x ≡ true = all x (rw (nat_eq-same x x refl)) in
-    rw here (list_all-holds p xs (λ t held. all t (rw held (or-true (nat_eq t x)))))
-
-pub holds-list_all : (p : ℕ → Bool) (xs : List ℕ) (t : ℕ) → list_all p xs ≡ true → holds xs t ≡ true → p t ≡ true
-holds-list_all p [] t all held = absurd (let e : false ≡ true = held in cc)
-holds-list_all p (x ∷ xs) t all held =
-    let both = and-true (p x) (list_all p xs) all in
-    elim (cases_Bool (nat_eq t x)) [
-      | inl is ↦ (let same : t ≡ x = eqb-true t x is in rw same both.0)
-      | inr other ↦ holds-list_all p xs t both.1 (rw other at held)
-    ]
 
 not-true : (b : Bool) → not b ≡ true → b ≡ false
 not-true true is = let e : false ≡ true = is in absurd (cc)

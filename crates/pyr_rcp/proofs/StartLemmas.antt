@@ -14,7 +14,8 @@ use Rattle.pyr_dsc.proofs.ChoiceLemmas.{filter-kept, filter-left_out}
 use Rattle.pyr_dsc.proofs.HeadLemmas.{kept-held}
 use Rattle.pyr_rcp.specs.Order.{Placing, processor_of, mapped_weight, processor_tasks, is_placed, predecessors, is_ready, ready_tasks, level, end_after, end_of, arrival, latest_arrival, earliest_start, IsNoLater, IsNext, IsPlacingStep}
 use Rattle.pyr_rcp.specs.Passes.{placing}
-use Rattle.pyr_rcp.proofs.ReadyLemmas.{is_ready-all, holds-list_all, ready_tasks-known}
+use Rattle.pyr_dsc.proofs.FreeLemmas.{holds-list_all}
+use Rattle.pyr_rcp.proofs.ReadyLemmas.{is_ready-all, ready_tasks-known}
 
 -- the greatest of keys that agree on the list
 pub greatest-same : (key other : ℕ → ℕ) (xs : List ℕ) → ((x : ℕ) → holds xs x ≡ true → key x ≡ other x) → greatest key xs ≡ greatest other xs

@@ -16,7 +16,8 @@ use Rattle.pyr_levels.specs.Scheduled.{holds, last_of}
 use Rattle.pyr_rcp.specs.Order.{processor_of, same_processor, processor_tasks, is_placed, predecessors, is_ready, end_after, end_of, arrival, latest_arrival, placing_at}
 use Rattle.pyr_rcp.specs.Passes.{AreSteps}
 use Rattle.pyr_rcp.proofs.LevelLemmas.{cond-le}
-use Rattle.pyr_rcp.proofs.ReadyLemmas.{is_ready-new, is_ready-all, is_ready-before, holds-list_all, ready_tasks-known}
+use Rattle.pyr_dsc.proofs.FreeLemmas.{holds-list_all}
+use Rattle.pyr_rcp.proofs.ReadyLemmas.{is_ready-new, is_ready-all, is_ready-before, ready_tasks-known}
 use Rattle.pyr_rcp.proofs.StartLemmas.{greatest-reached, last-placed, last-here, processor_tasks-other}
 
 module _ (s : System) (placement : Placement) (levels order starts finishes : List ℕ) (steps : AreSteps s placement levels order starts finishes) where

@@ -7,7 +7,7 @@ use Rattle.std.proofs.lemmas.Bool.{cases_Bool}
 use Rattle.std.proofs.lemmas.Cmp.{nat_eq_equiv}
 use Rattle.std.proofs.lemmas.Map.Views.{Contains-from_any, list_any-from_Contains}
 use Rattle.pyr_seq.specs.Walk.{IsTopological}
-use Rattle.pyr_seq.specs.Sequential.{Tasks, Store, inputs_of, entry_at, run_task, run_all, values, value_of, IsEdgeOf, HasOneWriter, Solves}
+use Rattle.pyr_seq.specs.Sequential.{Tasks, Store, inputs_of, entry_at, run_task, run_all, values, value_of, outputs_of, IsEdgeOf, HasOneWriter, Solves}
 use Rattle.pyr_seq.specs.Laws.{MakesLengths}
 
 from_not_true : (b : Bool) → (b ≡ true → ⊥) → b ≡ false
@@ -17,6 +17,11 @@ from_not_true false h = refl
 or-right : (p q : Bool) → q ≡ true → (p || q) ≡ true
 or-right true q is = refl
 or-right false q is = is
+
+-- what is alike for each datum is alike for the data of a list
+pub map_alike : (f g : ℕ → List ℕ) → ((d : ℕ) → f d ≡ g d) → (ds : List ℕ) → map f ds ≡ map g ds
+map_alike f g each [] = refl
+map_alike f g each (d ∷ ds) = λ i. each d i ∷ map_alike f g each ds i
 
 module _ (tasks : Tasks) where
   -- whether the task writes the datum, reads it
@@ -139,6 +144,12 @@ module _ (tasks : Tasks) where
       (run_all-holds order (λ _. None) (IsOrdered-topological one_writer order top))
       (all_moved (Holds (values tasks other)) other order top' top (run_all-holds other (λ _. None) (IsOrdered-topological one_writer other top')))
       (λ d none. run_all-other order d (λ _. None) none ∙ sym (run_all-other other d (λ _. None) (all_moved (λ u. Writes u d ≡ false) order other top top' none)))
+
+  -- so are the words of any data
+  pub outputs-same : (order other : List ℕ) → HasOneWriter tasks → IsTopological tasks.count (IsEdgeOf tasks) order → IsTopological tasks.count (IsEdgeOf tasks) other
+      → (ds : List ℕ) → outputs_of tasks order ds ≡ outputs_of tasks other ds
+  outputs-same order other one_writer top top' =
+      map_alike (value_of tasks order) (value_of tasks other) (λ d. ap (λ (o : Option (List ℕ)). unwrap_or o []) (values-same order other one_writer top top' d))
 
   -- the values solve the equation of each task
   pub values-holds : (order : List ℕ) → HasOneWriter tasks → IsTopological tasks.count (IsEdgeOf tasks) order → (t : ℕ) → t < tasks.count → Holds (values tasks order) t

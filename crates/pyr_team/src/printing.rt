@@ -6,7 +6,7 @@ ghost use Rattle.pyr_team.specs.Homes.{IsHome, AreHomes, IsValue, AreCopied};
 
 use pyr_bundle::{Bundle, every_datum_has_a_value};
 use pyr_machine::{Loaded, parcels_hold_values};
-use pyr_num::{DatumId, Outputs, ProcId, Words};
+use pyr_num::{DatumId, Outputs, ProcId, Words, overwrite};
 use pyr_proc::{Processor, ends_have_values};
 use sqlite_items::Items;
 use std::alloc::{AllocError, Global};
@@ -40,16 +40,6 @@ fn words_at<'r>(loaded: &Loaded, ran: &'r [Processor<'_>], home: ProcId, d: Datu
     match ran[home.0 as usize].words(d) {
         Some(words) => words,
         None => unreachable!(),
-    }
-}
-
-// Puts these words in place of those that stand there.
-fn overwrite(words: &mut Words, from: &[u64])
-    requires { length from.now ≡ length words.old }
-    ensures { words.new ≡ from.now }
-{
-    for i in 0..from.len() {
-        words.set(i, from[i]);
     }
 }
 

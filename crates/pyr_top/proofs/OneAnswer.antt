@@ -6,8 +6,8 @@ use Rattle.pyr_top.specs.declared.command.Command.{Command}
 use Rattle.pyr_top.specs.declared.command.Command.TheVariants.{Seq, Cluster, Compile, Gantt, Check, Run, Make, VerifyMake}
 use Rattle.pyr_top.specs.declared.refusal.Refusal.{Refusal}
 use Rattle.pyr_top.specs.declared.refusal.Refusal.TheVariants.{Usage, Source, Sink, Memory, TooLong, Program, Load}
-use Rattle.pyr_seq.specs.Sequential.{outputs_of, value_of, HasOneWriter}
-use Rattle.pyr_seq.proofs.SequentialLemmas.{values-same}
+use Rattle.pyr_seq.specs.Sequential.{HasOneWriter}
+use Rattle.pyr_seq.proofs.SequentialLemmas.{outputs-same}
 use Rattle.pyr_graph.specs.System.{datum_numbers}
 use Rattle.pyr_graph.specs.Faults.{IsSound}
 use Rattle.pyr_graphtext.specs.Program.{ProgramParts, tasks_of}
@@ -45,21 +45,11 @@ one_writer p frame sound a b d is_a is_b writes_a writes_b =
     differ x y (inl less) e = omega (arith, less, e)
     differ x y (inr more) e = omega (arith, more, e)
 
-same_values : (f g : ℕ → List ℕ) → ((d : ℕ) → f d ≡ g d) → (ds : List ℕ) → map f ds ≡ map g ds
-same_values f g each [] = refl
-same_values f g each (d ∷ ds) = λ i. each d i ∷ same_values f g each ds i
-
--- tasks in two topological orders print the same
-one_run : (p : ProgramParts) (order other : List ℕ) → IsSound p.graph → IsOrder p.graph order → IsOrder p.graph other → (ds : List ℕ) → outputs_of (tasks_of p 0) order ds ≡ outputs_of (tasks_of p 0) other ds
-one_run p order other sound first second ds =
-    same_values (value_of (tasks_of p 0) order) (value_of (tasks_of p 0) other)
-    (λ d. ap (λ (o : Option (List ℕ)). unwrap_or o []) (values-same (tasks_of p 0) order other (one_writer p 0 sound) first second d)) ds
-
 -- a program prints one text
 one_print : (p : ProgramParts) (a b : List ℕ) → IsSound p.graph → IsPrinted p a → IsPrinted p b → a ≡ b
 one_print p a b sound first second =
     first.text
-    ∙ ap (outputs_text p) (one_run p first.order second.order sound first.ordered second.ordered (datum_numbers p.graph.prints))
+    ∙ ap (outputs_text p) (outputs-same (tasks_of p 0) first.order second.order (one_writer p 0 sound) first.ordered second.ordered (datum_numbers p.graph.prints))
     ∙ sym second.text
 
 -- a text is refused in one way
@@ -151,8 +141,7 @@ one_run_output : (input : List ℕ) (l : Loads) (a b : List ℕ) → IsLoadOf in
 one_run_output input l a b is first second =
     first.text
     ∙ ap (bundle_outputs l.bundle)
-    (same_values (value_of (tasks_of_bundle l.bundle 0) first.order) (value_of (tasks_of_bundle l.bundle 0) second.order)
-    (λ d. ap (λ (o : Option (List ℕ)). unwrap_or o []) (values-same (tasks_of_bundle l.bundle 0) first.order second.order (has_one_writer l.bundle 0 (is_bundle input l.bundle is.is_text)) first.ordered second.ordered d))
+    (outputs-same (tasks_of_bundle l.bundle 0) first.order second.order (has_one_writer l.bundle 0 (is_bundle input l.bundle is.is_text)) first.ordered second.ordered
     (map (λ (d : DatumId). d.0) l.bundle.prints))
     ∙ sym second.text
 

@@ -3,7 +3,6 @@
 
 mod cluster_report;
 mod command;
-mod decimals;
 mod load_messages;
 mod messages;
 mod outputs_text;

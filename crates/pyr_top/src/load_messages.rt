@@ -3,9 +3,8 @@ ghost use Rattle.std.specs.Prelude.{◌≡◌, ◌++◌, ◌∷◌, codes, decim
 ghost use Rattle.pyr_loader.specs.declared.load_fault.LoadFault.TheVariants.{Law, Leftover};
 ghost use Rattle.pyr_top.specs.LoadMessages.{load_line, reason_text, stop_text, before_stop, stops_text};
 
-use crate::decimals::put_number;
 use crate::messages::{limit_line, text_line};
-use itoa::Buffer;
+use pyr_lex::{put_decimal, put_number};
 use pyr_loader::{LoadFault, Reason, Stop};
 use pyr_num::{DatumId, ProcId};
 use std::alloc::{AllocError, Global};
@@ -82,10 +81,9 @@ fn before_stop(p: usize) -> &'static [u8]
 fn put_stop(line: &mut Vec<u8>, p: u64, stop: Stop) -> Result<(), AllocError>
     ensures { OnOk result (line.new.items ≡ line.old.items ++ stop_text p stop) }
 {
-    let mut buffer = Buffer::new();
-    line.extend_from_slice(buffer.format(p).as_bytes())?;
+    put_decimal(line, p)?;
     line.push(b':')?;
-    line.extend_from_slice(buffer.format(stop.place).as_bytes())?;
+    put_decimal(line, u64::from(stop.place))?;
     line.push(b' ')?;
     put_reason(line, stop.reason)
 }

@@ -3,8 +3,8 @@ ghost use Rattle.std.specs.Prelude.{◌≡◌, ◌++◌, ◌∷◌, [], codes, d
 ghost use Rattle.std.specs.List.{flat_map};
 ghost use Rattle.pyr_top.specs.Messages.{fault_line, quantity_name, kind_words, limit_line, names_line, cycle_line};
 
-use itoa::Buffer;
 use pyr_graphtext::{NameKind, ProgramFault};
+use pyr_lex::put_decimal;
 use pyr_num::{Name, Quantity};
 use std::alloc::{AllocError, Global};
 
@@ -27,9 +27,8 @@ pub fn fault_line(alloc: Global, fault: &ProgramFault) -> Result<Vec<u8>, AllocE
 fn at_line(alloc: Global, number: u32) -> Result<Vec<u8>, AllocError>
     ensures { IfOk result (λ line. line.items ≡ codes "line " ++ decimal number ++ codes ": ") }
 {
-    let mut buffer = Buffer::new();
     let mut line = Vec::from_slice(alloc, b"line ")?;
-    line.extend_from_slice(buffer.format(number).as_bytes())?;
+    put_decimal(&mut line, u64::from(number))?;
     line.extend_from_slice(b": ")?;
     Ok(line)
 }

@@ -4,9 +4,9 @@ ghost use Rattle.pyr_bundle.specs.Parts.{datum_count, datum_at};
 ghost use Rattle.pyr_top.specs.OutputsText.{output_line, output_lines};
 ghost use Rattle.pyr_top.specs.OutputsText.{printed_names, outputs_text, bundle_names, bundle_outputs};
 
-use crate::decimals::put_number;
 use pyr_bundle::Bundle;
 use pyr_graphtext::Program;
+use pyr_lex::put_number;
 use pyr_num::{Name, Outputs, Words};
 use std::alloc::{AllocError, Global};
 

@@ -2,7 +2,7 @@
 ghost use Rattle.std.specs.Prelude.{◌≡◌, IfOk};
 ghost use Rattle.pyr_top.specs.SummaryText.{summary_text};
 
-use crate::decimals::put_number;
+use pyr_lex::put_number;
 use pyr_verify::Summary;
 use std::alloc::{AllocError, Global};
 

@@ -17,7 +17,6 @@ ghost use Rattle.pyr_top.specs.declared.command.Command.TheVariants.{Run};
 
 use crate::cluster_report::cluster_report;
 use crate::command::read_command;
-use crate::decimals::put_number;
 use crate::load_messages::load_line;
 use crate::messages::fault_line;
 use crate::outputs_text::outputs_text;
@@ -28,6 +27,7 @@ use pyr_compile::{compile, plan};
 use pyr_dsc::cluster;
 use pyr_gantt::report;
 use pyr_graphtext::{Program, print_program, read_program, sequential};
+use pyr_lex::put_number;
 use pyr_loader::load;
 use pyr_make::make;
 use pyr_num::Limits;

@@ -1,7 +1,7 @@
 -- For a number of tasks and of processors there is one summary.
 use Rattle.std.proofs.Common.{◌≡◌, ℕ, List, [], ◌∷◌, map, unwrap_or, Option, refl, sym, ap, ◌∙◌}
-use Rattle.pyr_seq.specs.Sequential.{HasOneWriter, outputs_of, value_of}
-use Rattle.pyr_seq.proofs.SequentialLemmas.{values-same}
+use Rattle.pyr_seq.specs.Sequential.{HasOneWriter, outputs_of}
+use Rattle.pyr_seq.proofs.SequentialLemmas.{outputs-same}
 use Rattle.pyr_graph.specs.System.{datum_numbers, task_numbers}
 use Rattle.pyr_graphtext.specs.Program.{ProgramParts, tasks_of}
 use Rattle.pyr_graphtext.specs.Sequential.{IsOrder}
@@ -22,17 +22,6 @@ use Rattle.pyr_verify.proofs.LoadLemmas.{code_again}
 one_writer : (n frame : ℕ) → HasOneWriter (tasks_of (layered_program n) frame)
 unfolding layered_program
 one_writer n frame a b d is_a is_b writes_a writes_b = writes_own n a d writes_a ∙ sym (writes_own n b d writes_b)
-
-pub same_values : (f g : ℕ → List ℕ) → ((d : ℕ) → f d ≡ g d) → (ds : List ℕ) → map f ds ≡ map g ds
-same_values f g each [] = refl
-same_values f g each (d ∷ ds) = λ i. each d i ∷ same_values f g each ds i
-
--- tasks in two topological orders print the same
-one_run : (p : ProgramParts) (order other : List ℕ) → HasOneWriter (tasks_of p 0) → IsOrder p.graph order → IsOrder p.graph other → (ds : List ℕ)
-    → outputs_of (tasks_of p 0) order ds ≡ outputs_of (tasks_of p 0) other ds
-one_run p order other single first second ds =
-    same_values (value_of (tasks_of p 0) order) (value_of (tasks_of p 0) other)
-    (λ d. ap (λ (o : Option (List ℕ)). unwrap_or o []) (values-same (tasks_of p 0) order other single first second d)) ds
 
 -- a program has one plan
 one_plan : (p : ProgramParts) (processors : ℕ) (a b : Parts) (first : IsCompiled p processors (raw_of a)) (second : IsCompiled p processors (raw_of b)) → OnePlan first.placement second.placement first.plan second.plan
@@ -69,4 +58,4 @@ one_summary tasks processors s t first second = λ i. record {
 
     outputs : outputs_of (tasks_of (layered_program tasks) 0) first.order (datum_numbers (layered_program tasks).graph.prints)
         ≡ outputs_of (tasks_of (layered_program tasks) 0) second.order (datum_numbers (layered_program tasks).graph.prints)
-    outputs = one_run (layered_program tasks) first.order second.order (one_writer tasks 0) first.ordered second.ordered (datum_numbers (layered_program tasks).graph.prints)
+    outputs = outputs-same (tasks_of (layered_program tasks) 0) first.order second.order (one_writer tasks 0) first.ordered second.ordered (datum_numbers (layered_program tasks).graph.prints)

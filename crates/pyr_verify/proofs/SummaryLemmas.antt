@@ -1,6 +1,7 @@
 -- What is found of a generated program is its summary.
 use Rattle.std.proofs.Common.{◌≡◌, ℕ, List, [], unwrap_or, Option, sym, ap, subst, ◌∙◌}
 use Rattle.pyr_seq.specs.Sequential.{outputs_of, value_of}
+use Rattle.pyr_seq.proofs.SequentialLemmas.{map_alike}
 use Rattle.pyr_graph.specs.declared.placement.Placement.{Placement}
 use Rattle.pyr_graph.specs.declared.plan.Plan.{Plan}
 use Rattle.pyr_graph.specs.System.{System, datum_numbers}
@@ -18,13 +19,12 @@ use Rattle.pyr_verify.specs.declared.loading.LoadedPlan.{LoadedPlan}
 use Rattle.pyr_verify.specs.declared.summary.Summary.{Summary}
 use Rattle.pyr_verify.specs.Summary.{message_count, wrapping_sum, IsSummary, HasLoadedText, IsVerified}
 use Rattle.pyr_verify.specs.LoadedPlan.{IsLoadedPlan}
-use Rattle.pyr_verify.proofs.OneSummary.{same_values}
 
 -- what a bundle prints is what its program prints
 pub printed_is : (p : ProgramParts) (b : Parts) (order : List ℕ) → MeansTheSame p b → (raw_of b).prints ≡ datum_numbers p.graph.prints
     → printed b 0 order ≡ outputs_of (tasks_of p 0) order (datum_numbers p.graph.prints)
 printed_is p b order means prints =
-    same_values (value_of (bundle_tasks b 0) order) (value_of (tasks_of p 0) order) (λ d. ap (λ (o : Option (List ℕ)). unwrap_or o []) (means.same 0 order d)) (raw_of b).prints
+    map_alike (value_of (bundle_tasks b 0) order) (value_of (tasks_of p 0) order) (λ d. ap (λ (o : Option (List ℕ)). unwrap_or o []) (means.same 0 order d)) (raw_of b).prints
     ∙ ap (outputs_of (tasks_of p 0) order) prints
 
 -- the loaded bundle is that of the plan

@@ -1,7 +1,7 @@
 use Rattle.std.proofs.Common.{◌≡◌, ◌+◌, ◌≤◌, ◌<◌, ◌^◌, drop, min}
 use Rattle.pyr_body.specs.Seen.{statements_of}
 use Rattle.pyr_body.specs.Size.{statements_nodes, statements_work}
-use Rattle.pyr_body.specs.declared.counting.TheConstants.{TOO_MUCH}
+use Rattle.pyr_num.specs.declared.work.TheConstants.{TOO_MUCH}
 use Rattle.pyr_body.proofs.counting.+work.Given as goal
 
 abbrev pub invariant-capped_work-loop-statement : goal.invariant-capped_work-loop-statement

@@ -1,7 +1,7 @@
 use Rattle.std.proofs.Common.{◌≡◌, ◌+◌, ◌≤◌, drop, min}
 use Rattle.pyr_code.specs.Seen.{code_of}
 use Rattle.pyr_code.specs.Size.{code_work}
-use Rattle.pyr_bundletext.specs.declared.open_code.TheConstants.{TOO_MUCH}
+use Rattle.pyr_num.specs.declared.work.TheConstants.{TOO_MUCH}
 use Rattle.pyr_bundletext.proofs.open_code.+work.Given as goal
 
 abbrev pub invariant-capped_work-loop-op : goal.invariant-capped_work-loop-op

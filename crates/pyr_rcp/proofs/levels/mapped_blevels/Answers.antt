@@ -1,8 +1,10 @@
 use Rattle.std.proofs.Common.{◌≡◌, ◌<◌, ◌-◌, arith, length}
 use Rattle.std.proofs.lemmas.List.{length-map}
 use Rattle.pyr_graph.specs.System.{task_count, task_numbers}
-use Rattle.pyr_rcp.proofs.Places.{number_at}
-use Rattle.pyr_rcp.proofs.LevelLemmas.{IsMappedFrom-later, IsMappedFrom-step, IsMappedFrom-all}
+use Rattle.pyr_levels.proofs.Places.{number_at}
+use Rattle.pyr_levels.proofs.BackwardLemmas.{IsDoneFrom-later, IsDoneFrom-step, IsDoneFrom-all}
+use Rattle.pyr_rcp.specs.Order.{placed_graph}
+use Rattle.pyr_rcp.proofs.LevelLemmas.{IsBlevel-low}
 use Rattle.pyr_rcp.proofs.levels.mapped_blevels.Goals as goal
 
 pub level_of-requires-clause-task_in : goal.level_of-requires-clause-task_in
@@ -22,7 +24,7 @@ level_of-requires-clause-later c =
     let inside : next < length order = omega arith in
     let full : length order ≡ task_count graph = rw length-map at top.full in
     rw (← number_at order next inside, c.deref.ensures.value)
-    (IsMappedFrom-later graph c.args.placement.now (task_numbers order) c.well_formed-2.ensures.limits top c.loop-place.place next _ (omega arith) (omega (arith, full)) c.loop-place.invariant)
+    (IsDoneFrom-later graph (placed_graph graph c.args.placement.now) (task_numbers order) top c.loop-place.place next _ (omega arith) (omega (arith, full)) c.loop-place.invariant)
 
 pub loop-place-preserved : goal.loop-place-preserved
 loop-place-preserved c =
@@ -32,11 +34,13 @@ loop-place-preserved c =
     let top = c.topological-order.ensures.order in
     let inside : next < length order = omega arith in
     let full : length order ≡ task_count graph = rw length-map at top.full in
+    let task_in = top.tasks next 0 (rw length-map inside) in
     let level = rw (← number_at order next inside) at c.level_of.ensures in
     rw (← number_at order next inside)
-    (IsMappedFrom-step graph c.args.placement.now (task_numbers order) c.well_formed-2.ensures.limits top c.loop-place.place next _ _ (omega arith) (omega (arith, full)) (top.tasks next 0 (rw length-map inside)) level c.loop-place.invariant)
+    (IsDoneFrom-step graph (placed_graph graph c.args.placement.now) (task_numbers order) top c.loop-place.place next _ _ (omega arith) (omega (arith, full)) task_in level
+    (IsBlevel-low graph c.args.placement.now (task_numbers order) c.well_formed-2.ensures.limits top _ _ task_in level) c.loop-place.invariant)
 
 pub returns : goal.returns
 returns c =
     let zero : c.loop-place.place ≡ 0 = omega arith in
-    IsMappedFrom-all _ _ _ c.well_formed-2.ensures.limits c.topological-order.ensures.order _ (rw zero at c.loop-place.invariant)
+    record { full = c.loop-place.invariant.full; each = IsDoneFrom-all _ _ _ c.topological-order.ensures.order _ (rw zero at c.loop-place.invariant) }
