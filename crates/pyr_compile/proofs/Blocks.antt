@@ -7,7 +7,7 @@ use Rattle.std.proofs.lemmas.List.{map-append}
 use Rattle.std.proofs.lemmas.List.Sums.{sum_by-cons}
 use Rattle.pyr_graph.specs.declared.placement.Placement.{Placement}
 use Rattle.pyr_graph.specs.System.{System}
-use Rattle.pyr_rcp.specs.Order.{processor_of}
+use Rattle.pyr_graph.specs.Placements.{processor_of}
 use Rattle.pyr_bundle.specs.declared.raw_instr.RawInstr.{RawInstr}
 use Rattle.pyr_bundle.specs.declared.instr.Instr.{Instr}
 use Rattle.pyr_bundle.specs.Parts.{instr_of}

@@ -14,7 +14,8 @@ use Rattle.pyr_graph.specs.Clusters.{cluster_numbers}
 use Rattle.pyr_dsc.specs.Run.{IsRun}
 use Rattle.pyr_merge.specs.Merge.{IsMerged}
 use Rattle.pyr_graphtext.specs.Program.{ProgramParts, IsProgram}
-use Rattle.pyr_rcp.specs.Order.{IsPlaced, IsOrdered, processor_of}
+use Rattle.pyr_graph.specs.Placements.{processor_of}
+use Rattle.pyr_rcp.specs.Order.{IsPlaced, IsOrdered}
 use Rattle.pyr_rcp.proofs.PlanLemmas.{IsTopological-from_ordered}
 use Rattle.pyr_bundle.specs.Parts.{Parts, IsBundle, raw_of, processor_count, code_at, task_at, instr_of}
 use Rattle.pyr_machine.specs.Machine.{tags, start}

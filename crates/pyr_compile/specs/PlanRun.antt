@@ -6,7 +6,8 @@ use Rattle.pyr_graph.specs.declared.plan.Plan.{Plan}
 use Rattle.pyr_graph.specs.System.{System, task_numbers}
 use Rattle.pyr_graph.specs.WholeGraph.{IsGraph}
 use Rattle.pyr_graphtext.specs.Program.{ProgramParts, IsProgram}
-use Rattle.pyr_rcp.specs.Order.{IsPlaced, IsOrdered, processor_of}
+use Rattle.pyr_graph.specs.Placements.{processor_of}
+use Rattle.pyr_rcp.specs.Order.{IsPlaced, IsOrdered}
 use Rattle.pyr_bundle.specs.Parts.{Parts, raw_of}
 use Rattle.pyr_machine.specs.Machine.{tags}
 use Rattle.pyr_machine.specs.Schedule.{CompletesBy}

@@ -8,7 +8,7 @@ use Rattle.std.proofs.lemmas.List.Folds.{list_any_more}
 use Rattle.pyr_num.specs.declared.ids.DatumId.{DatumId}
 use Rattle.pyr_graph.specs.declared.placement.Placement.{Placement}
 use Rattle.pyr_graph.specs.System.{System, task_at, datum_numbers, datum_count}
-use Rattle.pyr_rcp.specs.Order.{processor_of}
+use Rattle.pyr_graph.specs.Placements.{processor_of}
 use Rattle.pyr_emit.specs.Emission.{reads_it, is_read_on}
 use Rattle.pyr_emit.specs.Marks.{is_marked, AreMarks}
 

@@ -12,7 +12,8 @@ use Rattle.pyr_num.specs.declared.ids.DatumId.{DatumId}
 use Rattle.pyr_graph.specs.System.{System, task_at, task_count, datum_count, reads_of, IsEdge}
 use Rattle.pyr_graph.specs.WholeGraph.{IsGraph}
 use Rattle.pyr_seq.specs.Walk.{IsTopological}
-use Rattle.pyr_rcp.specs.Order.{IsPlaced, processor_of}
+use Rattle.pyr_graph.specs.Placements.{processor_of}
+use Rattle.pyr_rcp.specs.Order.{IsPlaced}
 use Rattle.pyr_bundle.specs.declared.raw_instr.RawInstr.{RawInstr}
 use Rattle.pyr_bundle.specs.Laws.{send_count, pairs_from, pairs_of}
 use Rattle.pyr_emit.specs.Emission.{reads_it, writes_it, is_read_on, is_awaited, is_destination, codes, channels_of, channel_of}

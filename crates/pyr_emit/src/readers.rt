@@ -3,7 +3,8 @@
 ghost use Rattle.std.specs.Prelude.{◌≡◌, ◌<◌, ◌||◌, ℕ, nat_eq, All, IfOk, length, slice_index};
 ghost use Rattle.std.specs.List.{list_any};
 ghost use Rattle.pyr_graph.specs.System.{task_count, datum_count, datum_numbers, task_numbers};
-ghost use Rattle.pyr_rcp.specs.Order.{IsPlaced, processor_of};
+ghost use Rattle.pyr_graph.specs.Placements.{processor_of};
+ghost use Rattle.pyr_rcp.specs.Order.{IsPlaced};
 ghost use Rattle.pyr_emit.specs.Marks.{is_marked, AreMarks, AreReaders};
 
 use pyr_graph::{Graph, Placement};

@@ -6,7 +6,7 @@ use Rattle.pyr_graph.specs.declared.placement.Placement.{Placement}
 use Rattle.pyr_graph.specs.declared.plan.Plan.{Plan}
 use Rattle.pyr_dsc.specs.Choice.{numbers}
 use Rattle.pyr_dsc.proofs.ChoiceLemmas.{list_any-snoc}
-use Rattle.pyr_rcp.specs.Order.{processor_of}
+use Rattle.pyr_graph.specs.Placements.{processor_of}
 use Rattle.pyr_gantt.specs.declared.bars.TheConstants.{COLUMNS, BUSY, IDLE}
 use Rattle.pyr_gantt.specs.Gantt.{runs_in, is_busy}
 use Rattle.pyr_gantt.specs.Bars.{AreDrawn}

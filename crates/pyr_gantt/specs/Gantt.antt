@@ -6,7 +6,7 @@ use Rattle.pyr_graph.specs.declared.plan.Plan.{Plan}
 use Rattle.pyr_graph.specs.System.{task_count}
 use Rattle.pyr_graphtext.specs.Program.{ProgramParts, task_name}
 use Rattle.pyr_dsc.specs.Choice.{numbers, greatest}
-use Rattle.pyr_rcp.specs.Order.{processor_of}
+use Rattle.pyr_graph.specs.Placements.{processor_of}
 use Rattle.pyr_gantt.specs.declared.bars.TheConstants.{COLUMNS, BUSY, IDLE}
 
 -- the start and the finish of a task

@@ -1,5 +1,6 @@
 pub mod System
 pub mod Clusters
+pub mod Placements
 pub mod Bounds
 pub mod Removal
 pub mod Faults

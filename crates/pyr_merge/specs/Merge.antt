@@ -3,6 +3,7 @@
 use Rattle.std.specs.Prelude.{◌≡◌, ◌⊎◌, ℕ, ◌+◌, ◌<◌, ◌≤◌, List, [], ◌∷◌, All, AllPairs, Contains, length, replicate, sum_by, slice_index, slice_index_or, slice_set}
 use Rattle.pyr_graph.specs.declared.placement.Placement.{Placement}
 use Rattle.pyr_graph.specs.System.{System, task_count, cost_of}
+use Rattle.pyr_graph.specs.Placements.{processor_of}
 
 -- the tasks of the cluster of this number
 abbrev pub tasks_of : List (List ℕ) → ℕ → List ℕ
@@ -42,10 +43,6 @@ IsDealt load before (k ∷ order) (p ∷ targets) after =
     IsLeastLoaded before p × IsDealt load (with_load before p (load k)) order targets after
 IsDealt load before [] (p ∷ targets) after = ⊥
 IsDealt load before (k ∷ order) [] after = ⊥
-
--- the processor of a task
-abbrev pub processor_of : Placement → ℕ → ℕ
-processor_of placement t = (slice_index_or placement.of t (record { 0 = 0 })).0
 
 -- The placement is that of the clusters on so many processors: they are taken by falling load, each
 -- goes to the processor with the least load so far, and each task is where its cluster is.

@@ -8,7 +8,8 @@ use Rattle.pyr_rcp.specs.declared.queue.Queue.{Queue}
 use Rattle.pyr_rcp.specs.declared.queue.Start.{Start}
 use Rattle.pyr_rcp.specs.declared.ready.Head.{Head}
 use Rattle.pyr_graph.specs.System.{task_count}
-use Rattle.pyr_rcp.specs.Order.{Placing, processor_of, is_ready, level, end_of, latest_arrival}
+use Rattle.pyr_graph.specs.Placements.{processor_of}
+use Rattle.pyr_rcp.specs.Order.{Placing, is_ready, level, end_of, latest_arrival}
 
 -- the greater level first, then the smaller number
 abbrev pub urgency_cmp : Urgency → Urgency → Ordering

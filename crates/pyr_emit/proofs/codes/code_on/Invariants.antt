@@ -2,7 +2,7 @@ use Rattle.std.proofs.Common.{◌≡◌, take}
 use Rattle.std.specs.Prelude.{nat_eq, slice_index}
 use Rattle.std.specs.List.{filter, flat_map, range_with_len}
 use Rattle.pyr_graph.specs.System.{task_numbers}
-use Rattle.pyr_rcp.specs.Order.{processor_of}
+use Rattle.pyr_graph.specs.Placements.{processor_of}
 use Rattle.pyr_emit.specs.Emission.{block_at}
 use Rattle.pyr_emit.specs.Marks.{AreMarks}
 use Rattle.pyr_emit.proofs.codes.code_on.Given as goal

@@ -1,0 +1,7 @@
+-- Placements of tasks on processors.
+use Rattle.std.specs.Prelude.{ℕ, slice_index_or}
+use Rattle.pyr_graph.specs.declared.placement.Placement.{Placement}
+
+-- the processor of a task
+abbrev pub processor_of : Placement → ℕ → ℕ
+processor_of placement t = (slice_index_or placement.of t (record { 0 = 0 })).0
