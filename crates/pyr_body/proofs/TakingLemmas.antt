@@ -23,9 +23,10 @@ use Rattle.pyr_body.specs.Lines.{Line, SetLine, PutLine, ForLine, DoneLine, stmt
 use Rattle.pyr_body.specs.Written.{WrittenExpr, written_nodes, written_brackets}
 use Rattle.pyr_body.specs.Names.{◌>>=◌, index_of, known, resolved}
 use Rattle.pyr_body.specs.Taking.{LinesTaken, nodes_fit, loop_fits, local_fits, numbered, with_line, with_numbered, after_set, after_put, after_for, after_done}
+use Rattle.pyr_body.specs.Fitting.{set_value, put_statement, for_fits}
 use Rattle.pyr_body.specs.Kept.{outer_lines, lines_in, taken_by, IsKept}
 use Rattle.pyr_body.proofs.ScopeLemmas.{all_numbered_after-append}
-use Rattle.pyr_body.proofs.Binding.{ok_of, bind_is}
+use Rattle.pyr_body.proofs.Binding.{ok_of, bind_ok, bind_is, same_ok}
 use Rattle.pyr_body.proofs.NameLemmas.{known_there, resolved_is, numbered_is}
 use Rattle.pyr_body.proofs.LinesLemmas.{lines_nodes-append, lines_depth-append, lines_count-append, all_opened_after-append, loops_from-append, AreInOrder-append, lines_of-append, lines_in-append, outer_lines-append}
 
@@ -123,15 +124,12 @@ module _ (reads : ℕ) (slots : List Name) (nodes_before : ℕ) (locals : List N
   abbrev before : LinesTaken
   before = taken_by reads slots nodes_before locals outer current
 
-  -- the lines before are counted
-  fits_now : (added : ℕ) → nodes_fit nodes_before nodes added ≡ Ok tt → nodes_fit nodes_before (lines_nodes (lines_in outer current)) added ≡ Ok tt
-  fits_now added fits = ap (λ n. nodes_fit nodes_before n added) (sym k.nodes_counted) ∙ fits
+  -- so many nodes more are few
+  few_more : (added : ℕ) → nodes_fit nodes_before (lines_nodes (lines_in outer current)) added ≡ Ok tt → nodes + added ≤ NODES
+  few_more added fits = omega (arith, k.nodes_counted, nodes_fit-ok nodes_before (lines_nodes (lines_in outer current)) added fits)
 
   -- a local that has or gets a number
-  module _ (name : Name) (us : List Name) (is_us : us ≡ locals) (fits : local_fits us (index_of name us) ≡ Ok tt) (l : ℕ) (locals' : List Name) (number : numbered name locals (index_of name locals) ≡ (l, locals')) where
-    local_now : local_fits locals (index_of name locals) ≡ Ok tt
-    local_now = ap (λ u. local_fits u (index_of name u)) (sym is_us) ∙ fits
-
+  module _ (name : Name) (fits : local_fits locals (index_of name locals) ≡ Ok tt) (l : ℕ) (locals' : List Name) (number : numbered name locals (index_of name locals) ≡ (l, locals')) where
     pub record IsNewLocal : Type 0 where
       pub next : l ≤ length locals
       pub count : max (length locals) (l + 1) ≡ length locals'
@@ -148,30 +146,48 @@ module _ (reads : ℕ) (slots : List Name) (nodes_before : ℕ) (locals : List N
           next = omega (arith, n.next, first);
           count = omega (arith, n.count, first, longer);
           distinct = subst AreDistinct second (n.distinct k.distinct_locals);
-          few = omega (arith, longer, local_fits-ok name locals (index_of name locals) k.few_locals local_now);
+          few = omega (arith, longer, local_fits-ok name locals (index_of name locals) k.few_locals fits);
         }
 
   -- a `set`
-  module _ (s : ℕ) (name : Name) (e : WrittenExpr) (x : ExprValue) (l : ℕ) (locals' : List Name) (current' : List StmtValue) (us vs ws : List Name)
-      (fits : nodes_fit nodes_before nodes (1 + s) ≡ Ok tt) (sized : s ≡ written_nodes e)
-      (is_us : us ≡ locals) (local : local_fits us (index_of name us) ≡ Ok tt)
-      (is_vs : vs ≡ locals) (is_ws : ws ≡ slots) (known_all : resolved vs ws e ≡ Ok (expr_of x))
-      (number : numbered name locals (index_of name locals) ≡ (l, locals')) (pushed : current' ≡ current ++ statements.Set l x ∷ [])
-      (deep : written_brackets e ≤ DEPTH) where
-    set_found : resolved locals slots e ≡ Ok (expr_of x)
-    set_found = ap (λ v. resolved v slots e) (sym is_vs) ∙ ap (λ w. resolved vs w e) (sym is_ws) ∙ known_all
+  module _ (name : Name) (e : WrittenExpr) (x : Expr) (value : set_value before name e ≡ Ok x) where
+    pub record SetParts : Type 0 where
+      pub fits : nodes_fit nodes_before (lines_nodes (lines_in outer current)) (1 + written_nodes e) ≡ Ok tt
+      pub local : local_fits locals (index_of name locals) ≡ Ok tt
+      pub found : resolved locals slots e ≡ Ok x
 
-    set_lines : lines_in outer current' ≡ lines_in outer current ++ SetLine l (expr_of x) ∷ []
+    set_parts : SetParts
+    set_parts =
+        let p = bind_ok (nodes_fit nodes_before (lines_nodes (lines_in outer current)) (1 + written_nodes e)) (λ a. local_fits locals (index_of name locals) >>= λ b. resolved locals slots e) x value in
+        let q = bind_ok (local_fits locals (index_of name locals)) (λ b. resolved locals slots e) x p.2 in
+        record { fits = p.1; local = q.1; found = q.2 }
+
+    pub set_fits : nodes + (1 + written_nodes e) ≤ NODES
+    set_fits = few_more (1 + written_nodes e) set_parts.fits
+
+  module _ (s : ℕ) (name : Name) (e : WrittenExpr) (x : ExprValue) (locals' : List Name) (current' : List StmtValue)
+      (sized : s ≡ written_nodes e) (value : set_value before name e ≡ Ok (expr_of x))
+      (is_locals : locals' ≡ (numbered name locals (index_of name locals)).1)
+      (pushed : current' ≡ current ++ statements.Set (numbered name locals (index_of name locals)).0 x ∷ [])
+      (deep : written_brackets e ≤ DEPTH) where
+    abbrev set_local : ℕ
+    set_local = (numbered name locals (index_of name locals)).0
+
+    set_number : numbered name locals (index_of name locals) ≡ (set_local, locals')
+    set_number = ap (λ (ls : List Name). (set_local, ls)) (sym is_locals)
+
+    set_lines : lines_in outer current' ≡ lines_in outer current ++ SetLine set_local (expr_of x) ∷ []
     set_lines =
         ap (lines_in outer) pushed
-        ∙ lines_in-append outer current (statements.Set l x)
-        ∙ ap (λ t. lines_in outer current ++ stmt_lines t) (stmt_of-Set l x)
+        ∙ lines_in-append outer current (statements.Set set_local x)
+        ∙ ap (λ t. lines_in outer current ++ stmt_lines t) (stmt_of-Set set_local x)
 
     pub set_taken : IsTaken (after_set before name e) (taken_by reads slots nodes_before locals' outer current') (length outer) (nodes + (1 + s))
     set_taken =
-        let n = local_new name us is_us local l locals' number in
-        let r = resolved_is locals slots e (expr_of x) set_found in
-        let next : IsNext reads slots locals locals' (SetLine l (expr_of x)) = record {
+        let p = set_parts name e (expr_of x) value in
+        let n = local_new name p.local set_local locals' set_number in
+        let r = resolved_is locals slots e (expr_of x) p.found in
+        let next : IsNext reads slots locals locals' (SetLine set_local (expr_of x)) = record {
           order = (n.next, subst (λ m. IsScoped m (length locals) (expr_of x)) (whole reads slots k.slots_split) r.scoped);
           numbered = n.count;
           few_locals = n.few;
@@ -180,47 +196,55 @@ module _ (reads : ℕ) (slots : List Name) (nodes_before : ℕ) (locals : List N
           count = omega arith;
         } in
         record {
-          kept = kept_step reads slots nodes_before locals locals' (lines_in outer current) (lines_in outer current') (length outer) (length outer) nodes (nodes + (1 + s)) (SetLine l (expr_of x)) k next set_lines refl k.few_loops (omega (arith, r.nodes, sized)) (nodes_fit-ok nodes_before nodes (1 + s) fits);
+          kept = kept_step reads slots nodes_before locals locals' (lines_in outer current) (lines_in outer current') (length outer) (length outer) nodes (nodes + (1 + s)) (SetLine set_local (expr_of x)) k next set_lines refl k.few_loops (omega (arith, r.nodes, sized)) (omega (arith, sized, few_more (1 + written_nodes e) p.fits));
           is =
-              bind_is (nodes_fit nodes_before (lines_nodes (lines_in outer current)) (1 + written_nodes e)) (λ a. local_fits locals (index_of name locals) >>= λ b. resolved locals slots e >>= λ y. Ok (with_numbered before name (λ m. SetLine m y))) tt _
-              (ap (λ m. nodes_fit nodes_before (lines_nodes (lines_in outer current)) (1 + m)) (sym sized) ∙ fits_now (1 + s) fits)
-              (bind_is (local_fits locals (index_of name locals)) (λ b. resolved locals slots e >>= λ y. Ok (with_numbered before name (λ m. SetLine m y))) tt _ (local_now name us is_us local l locals' number)
-              (bind_is (resolved locals slots e) (λ y. Ok (with_numbered before name (λ m. SetLine m y))) (expr_of x) _ set_found
-              (ap (λ (p : ℕ × List Name). ok_of (with_line before p.1 (SetLine p.0 (expr_of x)))) number
+              bind_is (nodes_fit nodes_before (lines_nodes (lines_in outer current)) (1 + written_nodes e)) (λ a. local_fits locals (index_of name locals) >>= λ b. resolved locals slots e >>= λ y. Ok (with_numbered before name (λ m. SetLine m y))) tt _ p.fits
+              (bind_is (local_fits locals (index_of name locals)) (λ b. resolved locals slots e >>= λ y. Ok (with_numbered before name (λ m. SetLine m y))) tt _ p.local
+              (bind_is (resolved locals slots e) (λ y. Ok (with_numbered before name (λ m. SetLine m y))) (expr_of x) _ p.found
+              (ap (λ (p : ℕ × List Name). ok_of (with_line before p.1 (SetLine p.0 (expr_of x)))) set_number
               ∙ ap (λ ls. ok_of (at_lines reads slots nodes_before locals' ls)) (sym set_lines))));
         }
 
   -- a `put`
-  module _ (s t : ℕ) (name : Name) (index e : WrittenExpr) (i x : ExprValue) (o : ℕ) (current' : List StmtValue) (us vs ws vs' ws' : List Name)
-      (fits : nodes_fit nodes_before nodes (1 + s + t) ≡ Ok tt) (sized : s ≡ written_nodes index) (sized' : t ≡ written_nodes e)
-      (is_us : us ≡ drop reads slots) (output : known name us ≡ Ok o)
-      (is_vs : vs ≡ locals) (is_ws : ws ≡ slots) (known_index : resolved vs ws index ≡ Ok (expr_of i))
-      (is_vs' : vs' ≡ locals) (is_ws' : ws' ≡ slots) (known_all : resolved vs' ws' e ≡ Ok (expr_of x))
-      (pushed : current' ≡ current ++ statements.Put o i x ∷ [])
+  module _ (name : Name) (index e : WrittenExpr) (y : Stmt) (statement : put_statement before name index e ≡ Ok y) where
+    pub record PutParts : Type 0 where
+      pub fits : nodes_fit nodes_before (lines_nodes (lines_in outer current)) (1 + written_nodes index + written_nodes e) ≡ Ok tt
+      pub o : ℕ
+      pub output : known name (drop reads slots) ≡ Ok o
+      pub i : Expr
+      pub index_found : resolved locals slots index ≡ Ok i
+      pub x : Expr
+      pub found : resolved locals slots e ≡ Ok x
+      pub is : tree.Put o i x ≡ y
+
+    put_parts : PutParts
+    put_parts =
+        let p = bind_ok (nodes_fit nodes_before (lines_nodes (lines_in outer current)) (1 + written_nodes index + written_nodes e)) (λ a. known name (drop reads slots) >>= λ o. resolved locals slots index >>= λ i. resolved locals slots e >>= λ x. Ok (tree.Put o i x)) y statement in
+        let q = bind_ok (known name (drop reads slots)) (λ o. resolved locals slots index >>= λ i. resolved locals slots e >>= λ x. Ok (tree.Put o i x)) y p.2 in
+        let u = bind_ok (resolved locals slots index) (λ i. resolved locals slots e >>= λ x. Ok (tree.Put q.0 i x)) y q.2 in
+        let v = bind_ok (resolved locals slots e) (λ x. Ok (tree.Put q.0 u.0 x)) y u.2 in
+        record { fits = p.1; o = q.0; output = q.1; i = u.0; index_found = u.1; x = v.0; found = v.1; is = same_ok (tree.Put q.0 u.0 v.0) y v.2 }
+
+    pub put_fits : nodes + (1 + written_nodes index + written_nodes e) ≤ NODES
+    put_fits = few_more (1 + written_nodes index + written_nodes e) put_parts.fits
+
+  module _ (s t : ℕ) (name : Name) (index e : WrittenExpr) (y : StmtValue) (current' : List StmtValue)
+      (sized : s ≡ written_nodes index) (sized' : t ≡ written_nodes e)
+      (statement : put_statement before name index e ≡ Ok (stmt_of y)) (pushed : current' ≡ current ++ y ∷ [])
       (deep : 1 + written_brackets index ≤ DEPTH) (deep' : written_brackets e ≤ DEPTH) where
-    put_index : resolved locals slots index ≡ Ok (expr_of i)
-    put_index = ap (λ v. resolved v slots index) (sym is_vs) ∙ ap (λ w. resolved vs w index) (sym is_ws) ∙ known_index
-
-    put_found : resolved locals slots e ≡ Ok (expr_of x)
-    put_found = ap (λ v. resolved v slots e) (sym is_vs') ∙ ap (λ w. resolved vs' w e) (sym is_ws') ∙ known_all
-
-    put_output : known name (drop reads slots) ≡ Ok o
-    put_output = ap (known name) (sym is_us) ∙ output
-
-    put_lines : lines_in outer current' ≡ lines_in outer current ++ PutLine o (expr_of i) (expr_of x) ∷ []
-    put_lines =
-        ap (lines_in outer) pushed
-        ∙ lines_in-append outer current (statements.Put o i x)
-        ∙ ap (λ t. lines_in outer current ++ stmt_lines t) (stmt_of-Put o i x)
-
     pub put_taken : IsTaken (after_put before name index e) (taken_by reads slots nodes_before locals outer current') (length outer) (nodes + (1 + s + t))
     put_taken =
-        let q = resolved_is locals slots index (expr_of i) put_index in
-        let r = resolved_is locals slots e (expr_of x) put_found in
+        let p = put_parts name index e (stmt_of y) statement in
+        let q = resolved_is locals slots index p.i p.index_found in
+        let r = resolved_is locals slots e p.x p.found in
         let w = whole reads slots k.slots_split in
-        let there = known_there name (drop reads slots) o put_output in
-        let next : IsNext reads slots locals locals (PutLine o (expr_of i) (expr_of x)) = record {
-          order = (omega (arith, there.within, length-drop reads slots), subst (λ m. IsScoped m (length locals) (expr_of i)) w q.scoped, subst (λ m. IsScoped m (length locals) (expr_of x)) w r.scoped);
+        let there = known_there name (drop reads slots) p.o p.output in
+        let lines : lines_in outer current' ≡ lines_in outer current ++ PutLine p.o p.i p.x ∷ [] =
+        ap (lines_in outer) pushed
+        ∙ lines_in-append outer current y
+        ∙ ap (λ t. lines_in outer current ++ stmt_lines t) (sym p.is) in
+        let next : IsNext reads slots locals locals (PutLine p.o p.i p.x) = record {
+          order = (omega (arith, there.within, length-drop reads slots), subst (λ m. IsScoped m (length locals) p.i) w q.scoped, subst (λ m. IsScoped m (length locals) p.x) w r.scoped);
           numbered = refl;
           few_locals = k.few_locals;
           distinct = k.distinct_locals;
@@ -228,20 +252,33 @@ module _ (reads : ℕ) (slots : List Name) (nodes_before : ℕ) (locals : List N
           count = omega arith;
         } in
         record {
-          kept = kept_step reads slots nodes_before locals locals (lines_in outer current) (lines_in outer current') (length outer) (length outer) nodes (nodes + (1 + s + t)) (PutLine o (expr_of i) (expr_of x)) k next put_lines refl k.few_loops (omega (arith, q.nodes, r.nodes, sized, sized')) (nodes_fit-ok nodes_before nodes (1 + s + t) fits);
+          kept = kept_step reads slots nodes_before locals locals (lines_in outer current) (lines_in outer current') (length outer) (length outer) nodes (nodes + (1 + s + t)) (PutLine p.o p.i p.x) k next lines refl k.few_loops (omega (arith, q.nodes, r.nodes, sized, sized')) (omega (arith, sized, sized', few_more (1 + written_nodes index + written_nodes e) p.fits));
           is =
-              bind_is (nodes_fit nodes_before (lines_nodes (lines_in outer current)) (1 + written_nodes index + written_nodes e)) (λ a. known name (drop reads slots) >>= λ p. resolved locals slots index >>= λ u. resolved locals slots e >>= λ y. Ok (with_line before locals (PutLine p u y))) tt _
-              (ap (λ m. nodes_fit nodes_before (lines_nodes (lines_in outer current)) (1 + m + written_nodes e)) (sym sized) ∙ ap (λ m. nodes_fit nodes_before (lines_nodes (lines_in outer current)) (1 + s + m)) (sym sized') ∙ fits_now (1 + s + t) fits)
-              (bind_is (known name (drop reads slots)) (λ p. resolved locals slots index >>= λ u. resolved locals slots e >>= λ y. Ok (with_line before locals (PutLine p u y))) o _ put_output
-              (bind_is (resolved locals slots index) (λ u. resolved locals slots e >>= λ y. Ok (with_line before locals (PutLine o u y))) (expr_of i) _ put_index
-              (bind_is (resolved locals slots e) (λ y. Ok (with_line before locals (PutLine o (expr_of i) y))) (expr_of x) _ put_found
-              (ap (λ ls. ok_of (at_lines reads slots nodes_before locals ls)) (sym put_lines)))));
+              bind_is (nodes_fit nodes_before (lines_nodes (lines_in outer current)) (1 + written_nodes index + written_nodes e)) (λ a. known name (drop reads slots) >>= λ o. resolved locals slots index >>= λ i. resolved locals slots e >>= λ x. Ok (with_line before locals (PutLine o i x))) tt _ p.fits
+              (bind_is (known name (drop reads slots)) (λ o. resolved locals slots index >>= λ i. resolved locals slots e >>= λ x. Ok (with_line before locals (PutLine o i x))) p.o _ p.output
+              (bind_is (resolved locals slots index) (λ i. resolved locals slots e >>= λ x. Ok (with_line before locals (PutLine p.o i x))) p.i _ p.index_found
+              (bind_is (resolved locals slots e) (λ x. Ok (with_line before locals (PutLine p.o p.i x))) p.x _ p.found
+              (ap (λ ls. ok_of (at_lines reads slots nodes_before locals ls)) (sym lines)))));
         }
 
   -- a `for`
-  module _ (loops : ℕ) (name : Name) (l n : ℕ) (locals' us : List Name) (front empty : List StmtValue) (outer' : List OpenLoop)
-      (fits : nodes_fit nodes_before nodes 1 ≡ Ok tt) (is_loops : loops ≡ length outer) (room : loop_fits loops n ≡ Ok tt)
-      (is_us : us ≡ locals) (local : local_fits us (index_of name us) ≡ Ok tt)
+  module _ (name : Name) (n : ℕ) (fits : for_fits before name n ≡ Ok tt) where
+    pub record ForParts : Type 0 where
+      pub nodes_more : nodes_fit nodes_before (lines_nodes (lines_in outer current)) 1 ≡ Ok tt
+      pub room : loop_fits (loops_open (lines_in outer current)) n ≡ Ok tt
+      pub local : local_fits locals (index_of name locals) ≡ Ok tt
+
+    for_parts : ForParts
+    for_parts =
+        let p = bind_ok (nodes_fit nodes_before (lines_nodes (lines_in outer current)) 1) (λ a. loop_fits (loops_open (lines_in outer current)) n >>= λ b. local_fits locals (index_of name locals)) tt fits in
+        let q = bind_ok (loop_fits (loops_open (lines_in outer current)) n) (λ b. local_fits locals (index_of name locals)) tt p.2 in
+        record { nodes_more = p.1; room = q.1; local = q.2 }
+
+    pub one_fits : nodes + 1 ≤ NODES
+    one_fits = few_more 1 for_parts.nodes_more
+
+  module _ (name : Name) (l n : ℕ) (locals' : List Name) (front empty : List StmtValue) (outer' : List OpenLoop)
+      (fits : for_fits before name n ≡ Ok tt)
       (number : numbered name locals (index_of name locals) ≡ (l, locals')) (is_front : front ≡ current) (is_empty : empty ≡ [])
       (pushed : outer' ≡ outer ++ (let o : OpenLoop = record { before = front; local = l; count = n } in o) ∷ []) where
     for_lines : lines_in outer' empty ≡ lines_in outer current ++ ForLine l n ∷ []
@@ -255,8 +292,9 @@ module _ (reads : ℕ) (slots : List Name) (nodes_before : ℕ) (locals : List N
 
     pub for_taken : IsTaken (after_for before name n) (taken_by reads slots nodes_before locals' outer' empty) (length outer') (nodes + 1)
     for_taken =
-        let m = local_new name us is_us local l locals' number in
-        let r = loop_fits-ok loops n room in
+        let p = for_parts name n fits in
+        let m = local_new name p.local l locals' number in
+        let r = loop_fits-ok (loops_open (lines_in outer current)) n p.room in
         let longer : length outer' ≡ length outer + 1 = ap (λ (os : List OpenLoop). length os) pushed ∙ length-append outer _ in
         let next : IsNext reads slots locals locals' (ForLine l n) = record {
           order = m.next;
@@ -266,13 +304,12 @@ module _ (reads : ℕ) (slots : List Name) (nodes_before : ℕ) (locals : List N
           brackets = omega arith;
           count = r.1;
         } in
-        let open_now : loop_fits (loops_open (lines_in outer current)) n ≡ Ok tt = ap (λ j. loop_fits j n) (sym k.loops_counted) ∙ ap (λ j. loop_fits j n) (sym is_loops) ∙ room in
         record {
-          kept = kept_step reads slots nodes_before locals locals' (lines_in outer current) (lines_in outer' empty) (length outer) (length outer') nodes (nodes + 1) (ForLine l n) k next for_lines longer (omega (arith, longer, r.0, is_loops)) refl (nodes_fit-ok nodes_before nodes 1 fits);
+          kept = kept_step reads slots nodes_before locals locals' (lines_in outer current) (lines_in outer' empty) (length outer) (length outer') nodes (nodes + 1) (ForLine l n) k next for_lines longer (omega (arith, longer, r.0, k.loops_counted)) refl (few_more 1 p.nodes_more);
           is =
-              bind_is (nodes_fit nodes_before (lines_nodes (lines_in outer current)) 1) (λ a. loop_fits (loops_open (lines_in outer current)) n >>= λ b. local_fits locals (index_of name locals) >>= λ d. Ok (with_numbered before name (λ j. ForLine j n))) tt _ (fits_now 1 fits)
-              (bind_is (loop_fits (loops_open (lines_in outer current)) n) (λ b. local_fits locals (index_of name locals) >>= λ d. Ok (with_numbered before name (λ j. ForLine j n))) tt _ open_now
-              (bind_is (local_fits locals (index_of name locals)) (λ d. Ok (with_numbered before name (λ j. ForLine j n))) tt _ (local_now name us is_us local l locals' number)
+              bind_is (nodes_fit nodes_before (lines_nodes (lines_in outer current)) 1) (λ a. loop_fits (loops_open (lines_in outer current)) n >>= λ b. local_fits locals (index_of name locals) >>= λ d. Ok (with_numbered before name (λ j. ForLine j n))) tt _ p.nodes_more
+              (bind_is (loop_fits (loops_open (lines_in outer current)) n) (λ b. local_fits locals (index_of name locals) >>= λ d. Ok (with_numbered before name (λ j. ForLine j n))) tt _ p.room
+              (bind_is (local_fits locals (index_of name locals)) (λ d. Ok (with_numbered before name (λ j. ForLine j n))) tt _ p.local
               (ap (λ (p : ℕ × List Name). ok_of (with_line before p.1 (ForLine p.0 n))) number
               ∙ ap (λ ls. ok_of (at_lines reads slots nodes_before locals' ls)) (sym for_lines))));
         }

@@ -15,6 +15,7 @@ pub mod Spelling
 pub mod Reading
 pub mod Names
 pub mod Taking
+pub mod Fitting
 pub mod Kept
 pub mod Reader
 pub mod Computed

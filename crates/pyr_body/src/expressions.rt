@@ -71,7 +71,7 @@ fn group(alloc: Global, depth: u32, tokens: &mut Cursor) -> Result<WrittenExpr, 
     ensures { Finds result tokens.new (group_from (expr_at depth) tokens.old) }
 {
     let first = expression_at(alloc, depth, tokens)?;
-    operands(alloc, depth, tokens, first)
+    operands(alloc, depth, tokens, Boxed::new(alloc, first)?)
 }
 
 // What follows the first operand.
@@ -80,7 +80,7 @@ fn operands(
     alloc: Global,
     depth: u32,
     tokens: &mut Cursor,
-    first: WrittenExpr,
+    first: Boxed<WrittenExpr>,
 ) -> Result<WrittenExpr, LineFault>
     ensures { Finds result tokens.new
         (operands_from (expr_at depth) (written_of first) tokens.old) }
@@ -100,15 +100,13 @@ fn apply(
     alloc: Global,
     depth: u32,
     tokens: &mut Cursor,
-    first: WrittenExpr,
+    first: Boxed<WrittenExpr>,
     operator: Bin,
 ) -> Result<WrittenExpr, LineFault>
     ensures { Finds result tokens.new
         (apply_from (expr_at depth) (written_of first) operator tokens.old) }
 {
     let second = until_paren(alloc, depth, tokens)?;
-    let first = Boxed::new(alloc, first)?;
-    let second = Boxed::new(alloc, second)?;
     Ok(WrittenExpr::Bin(operator, first, second))
 }
 
@@ -117,25 +115,26 @@ fn select(
     alloc: Global,
     depth: u32,
     tokens: &mut Cursor,
-    first: WrittenExpr,
+    first: Boxed<WrittenExpr>,
 ) -> Result<WrittenExpr, LineFault>
     ensures { Finds result tokens.new (select_from (expr_at depth) (written_of first) tokens.old) }
 {
     let second = until_colon(alloc, depth, tokens)?;
     let third = until_paren(alloc, depth, tokens)?;
-    let first = Boxed::new(alloc, first)?;
-    let second = Boxed::new(alloc, second)?;
-    let third = Boxed::new(alloc, third)?;
     Ok(WrittenExpr::Sel(first, second, third))
 }
 
 #[cycle(expression)]
-fn until_paren(alloc: Global, depth: u32, tokens: &mut Cursor) -> Result<WrittenExpr, LineFault>
+fn until_paren(
+    alloc: Global,
+    depth: u32,
+    tokens: &mut Cursor,
+) -> Result<Boxed<WrittenExpr>, LineFault>
     ensures { Finds result tokens.new (until_paren (expr_at depth) tokens.old) }
 {
     let expression = expression_at(alloc, depth, tokens)?;
     close_paren(tokens)?;
-    Ok(expression)
+    Ok(Boxed::new(alloc, expression)?)
 }
 
 #[cycle(expression)]
@@ -152,12 +151,16 @@ pub(crate) fn until_bracket(
 }
 
 #[cycle(expression)]
-fn until_colon(alloc: Global, depth: u32, tokens: &mut Cursor) -> Result<WrittenExpr, LineFault>
+fn until_colon(
+    alloc: Global,
+    depth: u32,
+    tokens: &mut Cursor,
+) -> Result<Boxed<WrittenExpr>, LineFault>
     ensures { Finds result tokens.new (until_colon (expr_at depth) tokens.old) }
 {
     let expression = expression_at(alloc, depth, tokens)?;
     colon(tokens)?;
-    Ok(expression)
+    Ok(Boxed::new(alloc, expression)?)
 }
 
 fn close_paren(tokens: &mut Cursor) -> Result<(), LineFault>

@@ -52,22 +52,26 @@ pub fn resolve(
         WrittenExpr::Frame => Ok(Expr::Frame),
         WrittenExpr::Get(name, index) => {
             let slot = known(*name, slots)?;
-            let index = resolve(alloc, index.get(), locals, slots)?;
-            Ok(Expr::Get(slot, Boxed::new(alloc, index)?))
+            let index = boxed(alloc, resolve(alloc, index.get(), locals, slots))?;
+            Ok(Expr::Get(slot, index))
         }
         WrittenExpr::Bin(operator, a, b) => {
-            let a = resolve(alloc, a.get(), locals, slots)?;
-            let b = resolve(alloc, b.get(), locals, slots)?;
-            Ok(Expr::Bin(*operator, Boxed::new(alloc, a)?, Boxed::new(alloc, b)?))
+            let a = boxed(alloc, resolve(alloc, a.get(), locals, slots))?;
+            let b = boxed(alloc, resolve(alloc, b.get(), locals, slots))?;
+            Ok(Expr::Bin(*operator, a, b))
         }
         WrittenExpr::Sel(c, a, b) => {
-            let c = resolve(alloc, c.get(), locals, slots)?;
-            let a = resolve(alloc, a.get(), locals, slots)?;
-            let b = resolve(alloc, b.get(), locals, slots)?;
-            let c = Boxed::new(alloc, c)?;
-            let a = Boxed::new(alloc, a)?;
-            let b = Boxed::new(alloc, b)?;
+            let c = boxed(alloc, resolve(alloc, c.get(), locals, slots))?;
+            let a = boxed(alloc, resolve(alloc, a.get(), locals, slots))?;
+            let b = boxed(alloc, resolve(alloc, b.get(), locals, slots))?;
             Ok(Expr::Sel(c, a, b))
         }
     }
+}
+
+// Puts an expression in a box of its own, unless it was refused.
+fn boxed(alloc: Global, expression: Result<Expr, LineFault>) -> Result<Boxed<Expr>, LineFault>
+    ensures { Answers (λ e. e) result expression }
+{
+    Ok(Boxed::new(alloc, expression?)?)
 }

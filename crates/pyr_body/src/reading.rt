@@ -1,17 +1,20 @@
 // The lines of a body that were taken so far.
-ghost use Rattle.std.specs.Prelude.{◌≡◌, ◌+◌, ◌<◌, ◌≤◌, ◌^◌, length, Ok, IfOk};
+ghost use Rattle.std.specs.Prelude.{◌≡◌, ◌+◌, ◌<◌, ◌≤◌, ◌^◌, [], ◌∷◌, ◌++◌, length, drop, Ok, IfOk, OnOk};
+ghost use Rattle.pyr_body.specs.Seen.{expr_of, stmt_of};
+ghost use Rattle.pyr_body.specs.Lines.{lines_nodes};
 ghost use Rattle.pyr_body.specs.Written.{written_nodes, written_brackets};
 ghost use Rattle.pyr_body.specs.WrittenSeen.{written_of};
-ghost use Rattle.pyr_body.specs.Names.{Answers, index_of};
+ghost use Rattle.pyr_body.specs.Names.{Answers, index_of, known, resolved};
 ghost use Rattle.pyr_body.specs.Taking.{no_lines, nodes_fit, local_fits, loop_fits, numbered};
 ghost use Rattle.pyr_body.specs.Taking.{after_set, after_put, after_for, after_done};
+ghost use Rattle.pyr_body.specs.Fitting.{set_value, put_statement, for_fits};
 ghost use Rattle.pyr_body.specs.Reader.{IsEnd};
 
 use crate::counting::capped_work;
 use crate::naming::{index_of, known, resolve};
 use crate::open_loop::OpenLoop;
 use crate::written_expr::WrittenExpr;
-use crate::{Body, LineFault, SlotNames, Stmt};
+use crate::{Body, Expr, LineFault, SlotNames, Stmt};
 use pyr_num::{Limits, Name, NameList, Quantity};
 use sqlite_items::Items;
 use std::alloc::{AllocError, Global};
@@ -85,13 +88,26 @@ impl Reading {
         ensures { Answers (λ r. r) result (after_set self name (written_of value.now)) }
     {
         let added = 1 + written_nodes(value);
-        fit_nodes(self.nodes_before, self.nodes, added)?;
-        fit_local(self.locals.as_slice(), name)?;
-        let value = resolve(alloc, value, self.locals.as_slice(), self.slots.as_slice())?;
-        let local = number(&mut self.locals, name)?;
-        self.current.push(Stmt::Set(local, value))?;
+        let value = self.set_value(alloc, name, value, added)?;
+        push_set(&mut self.locals, &mut self.current, name, value)?;
         self.nodes += added;
         Ok(self)
+    }
+
+    // The value of a `set` over numbers, where the line, of so many nodes, is within the limits.
+    fn set_value(
+        &self,
+        alloc: Global,
+        name: Name,
+        value: &WrittenExpr,
+        added: u32,
+    ) -> Result<Expr, LineFault>
+        requires { added ≡ 1 + written_nodes (written_of value.now) }
+        ensures { Answers expr_of result (set_value self.now name (written_of value.now)) }
+    {
+        self.fit_nodes(added)?;
+        fit_local(self.locals.as_slice(), name)?;
+        self.resolve(alloc, value)
     }
 
     /// Takes a `put`.
@@ -110,22 +126,38 @@ impl Reading {
             (after_put self name (written_of index.now) (written_of value.now)) }
     {
         let added = 1 + written_nodes(index) + written_nodes(value);
-        fit_nodes(self.nodes_before, self.nodes, added)?;
-        let output = known(name, &self.slots.as_slice()[self.reads as usize..])?;
-        let index = resolve(alloc, index, self.locals.as_slice(), self.slots.as_slice())?;
-        let value = resolve(alloc, value, self.locals.as_slice(), self.slots.as_slice())?;
-        self.current.push(Stmt::Put(output, index, value))?;
+        let statement = self.put_statement(alloc, name, index, value, added)?;
+        self.current.push(statement)?;
         self.nodes += added;
         Ok(self)
+    }
+
+    // The statement that a `put` is, where the line, of so many nodes, is within the limits.
+    fn put_statement(
+        &self,
+        alloc: Global,
+        name: Name,
+        index: &WrittenExpr,
+        value: &WrittenExpr,
+        added: u32,
+    ) -> Result<Stmt, LineFault>
+        requires { added ≡ 1 + written_nodes (written_of index.now)
+            + written_nodes (written_of value.now) }
+        ensures { Answers stmt_of result
+            (put_statement self.now name (written_of index.now) (written_of value.now)) }
+    {
+        self.fit_nodes(added)?;
+        let output = self.output(name)?;
+        let index = self.resolve(alloc, index)?;
+        let value = self.resolve(alloc, value)?;
+        Ok(Stmt::Put(output, index, value))
     }
 
     /// Takes a `for`.
     pub fn open(mut self, alloc: Global, name: Name, count: u64) -> Result<Reading, LineFault>
         ensures { Answers (λ r. r) result (after_for self name count) }
     {
-        fit_nodes(self.nodes_before, self.nodes, 1)?;
-        fit_loop(self.outer.len(), count)?;
-        fit_local(self.locals.as_slice(), name)?;
+        self.fit_for(name, count)?;
         let local = number(&mut self.locals, name)?;
         let before = mem::replace(&mut self.current, Items::new(alloc));
         self.outer.push(OpenLoop {
@@ -135,6 +167,15 @@ impl Reading {
         })?;
         self.nodes += 1;
         Ok(self)
+    }
+
+    // Tests that a `for` is within the limits.
+    fn fit_for(&self, name: Name, count: u64) -> Result<(), LineFault>
+        ensures { Answers (λ _. tt {0}) result (for_fits self.now name count) }
+    {
+        self.fit_nodes(1)?;
+        fit_loop(self.outer.len(), count)?;
+        fit_local(self.locals.as_slice(), name)
     }
 
     /// Takes a `done`.
@@ -152,6 +193,44 @@ impl Reading {
         let turn = mem::replace(&mut self.current, before);
         self.current.push(Stmt::For(local, count, turn))?;
         Ok(self)
+    }
+
+    // Tests that so many nodes more are within the limits.
+    fn fit_nodes(&self, added: u32) -> Result<(), LineFault>
+        ensures { Answers (λ _. tt {0}) result
+            (nodes_fit self.now.nodes_before (lines_nodes self.now.lines) added) }
+    {
+        if added > Limits::NODES - self.nodes {
+            return Err(LineFault::Limit {
+                which: Quantity::Nodes,
+            });
+        }
+        if self.nodes_before + self.nodes + added > Limits::ALL_NODES {
+            return Err(LineFault::Limit {
+                which: Quantity::AllNodes,
+            });
+        }
+        Ok(())
+    }
+
+    // The number of an output, which has to be known.
+    fn output(&self, name: Name) -> Result<u32, LineFault>
+        ensures { Answers (λ o. o) result (known name (drop self.now.reads self.now.slots)) }
+    {
+        known(name, &self.slots.as_slice()[self.reads as usize..])
+    }
+
+    // The expression over numbers, or the first name from the left that has none.
+    fn resolve(&self, alloc: Global, written: &WrittenExpr) -> Result<Expr, LineFault>
+        ensures { Answers expr_of result
+            (resolved self.now.locals self.now.slots (written_of written.now)) }
+    {
+        resolve(
+            alloc,
+            written,
+            self.locals.as_slice(),
+            self.slots.as_slice(),
+        )
     }
 
     /// The body that the lines are.
@@ -183,25 +262,6 @@ fn written_nodes(expression: &WrittenExpr) -> u32
             1 + written_nodes(c.get()) + written_nodes(a.get()) + written_nodes(b.get())
         }
     }
-}
-
-// Tests that so many nodes more are within the limits.
-fn fit_nodes(nodes_before: u32, nodes: u32, added: u32) -> Result<(), LineFault>
-    requires before { nodes_before ≤ Limits.ALL_NODES }
-    requires nodes { nodes ≤ Limits.NODES }
-    ensures { Answers (λ _. tt {0}) result (nodes_fit nodes_before nodes added) }
-{
-    if added > Limits::NODES - nodes {
-        return Err(LineFault::Limit {
-            which: Quantity::Nodes,
-        });
-    }
-    if nodes_before + nodes + added > Limits::ALL_NODES {
-        return Err(LineFault::Limit {
-            which: Quantity::AllNodes,
-        });
-    }
-    Ok(())
 }
 
 // Tests that a loop more is within the limits.
@@ -253,4 +313,21 @@ fn number(locals: &mut NameList, name: Name) -> Result<u32, AllocError>
             Ok(l)
         }
     }
+}
+
+// Appends a `set`, whose local gets the next number where it has none.
+fn push_set(
+    locals: &mut NameList,
+    current: &mut Items<Stmt>,
+    name: Name,
+    value: Expr,
+) -> Result<(), AllocError>
+    requires { length locals.old ≤ Limits.LOCALS }
+    ensures locals { OnOk result (locals.new
+        ≡ (numbered name locals.old (index_of name locals.old)).1) }
+    ensures current { OnOk result (current.new ≡ current.old
+        ++ Stmt.Set (numbered name locals.old (index_of name locals.old)).0 value ∷ []) }
+{
+    let local = number(locals, name)?;
+    current.push(Stmt::Set(local, value))
 }

@@ -1,7 +1,7 @@
 use pyr_num::ProcId;
 
 /// A channel from a processor to another, and how many parcels it holds at most.
-#[derive(Clone, Copy, Debug, PartialEq, Eq, Hash)]
+#[derive(Clone, Copy, Debug, PartialEq, Eq)]
 pub struct Capacity {
     pub from: ProcId,
     pub to: ProcId,

@@ -14,7 +14,7 @@ use sqlite_items::Items;
 use std::alloc::{AllocError, Global};
 
 // Two processors, and how many sends there are from the one to the other.
-#[derive(Clone, Copy, Debug)]
+#[derive(Clone, Copy)]
 pub(crate) struct Link {
     from: u64,
     to: u64,

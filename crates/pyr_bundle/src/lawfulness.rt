@@ -1,5 +1,7 @@
 // All laws, from the first to the last.
 ghost use Rattle.std.specs.Prelude.{◌≡◌, map, IfOk, OnOk, IfErr};
+ghost use Rattle.pyr_bundle.specs.Law.{IsKept};
+ghost use Rattle.pyr_bundle.specs.Laws.{names, accesses, writers, codes};
 ghost use Rattle.pyr_bundle.specs.Raw.{IsWithinLimits};
 ghost use Rattle.pyr_bundle.specs.Faults.{IsLawful, IsCause};
 ghost use Rattle.pyr_bundle.specs.Parts.{bundle_task_of};
@@ -26,6 +28,20 @@ pub(crate) fn lawful_tasks(alloc: Global, raw: &RawBundle) -> Result<Vec<BundleT
     check_accesses(alloc, raw)?;
     check_writers(alloc, raw)?;
     let tasks = checked_tasks(alloc, raw)?;
+    check_others(alloc, raw)?;
+    Ok(tasks)
+}
+
+// The laws behind that of the codes of tasks, from law 5 on.
+fn check_others(alloc: Global, raw: &RawBundle) -> Result<(), BundleFault>
+    requires limits { IsWithinLimits raw.now }
+    requires names { IsKept (names raw.now) }
+    requires accesses { IsKept (accesses raw.now) }
+    requires writers { IsKept (writers raw.now) }
+    requires codes { IsKept (codes raw.now) }
+    ensures lawful { OnOk result (IsLawful raw.now) }
+    ensures fault { IfErr result (IsCause raw.now) }
+{
     check_prints(alloc, raw)?;
     check_operands(raw)?;
     check_executions(alloc, raw)?;
@@ -34,5 +50,5 @@ pub(crate) fn lawful_tasks(alloc: Global, raw: &RawBundle) -> Result<Vec<BundleT
     let links = links_of(alloc, raw)?;
     check_channels(raw, &links)?;
     check_capacities(raw, &links)?;
-    Ok(tasks)
+    Ok(())
 }

@@ -1,5 +1,5 @@
 /// A channel as it is handed in.
-#[derive(Clone, Copy, Debug, PartialEq, Eq, Hash)]
+#[derive(Clone, Copy, Debug, PartialEq, Eq)]
 pub struct RawChannel {
     pub from: u64,
     pub to: u64,

@@ -6,7 +6,7 @@ ghost use Rattle.pyr_bundletext.specs.Reading.{keyword_text, keyword_of};
 use pyr_num::Bin;
 
 /// The first word of a line, of which numbers alone follow.
-#[derive(Clone, Copy, Debug, PartialEq, Eq)]
+#[derive(Clone, Copy)]
 pub enum Keyword {
     Pyrros,
     Processors,

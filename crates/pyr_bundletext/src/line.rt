@@ -6,7 +6,7 @@ use sqlite_items::Items;
 
 /// What a line of a bundle text says. Numbers that name data, tasks, processors, slots and locals
 /// may name none.
-#[derive(Debug, Drop)]
+#[derive(Drop)]
 pub enum Line {
     /// The first line, with the version.
     Pyrros,

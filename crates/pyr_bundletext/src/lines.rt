@@ -8,11 +8,18 @@ use pyr_lex::put_number;
 use pyr_num::DatumId;
 use std::alloc::AllocError;
 
+// A law, that takes no time: numbers of 64 bits are words.
 #[tactic(auto, using(crate::proofs::PrintingLemmas::words_from))]
+fn are_words(numbers: &[u64])
+    ensures { AllByRecursion IsWord numbers.now }
+{}
+
+// A line of a word and numbers.
 pub(crate) fn put_line(text: &mut Vec<u8>, word: &[u8], numbers: &[u64]) -> Result<(), AllocError>
     ensures text { OnOk result (text.new.items ≡ text.old.items ++ line word.now numbers.now) }
     ensures words { AllByRecursion IsWord numbers.now }
 {
+    are_words(numbers);
     text.extend_from_slice(word)?;
     for number in numbers {
         put_number(text, *number)?;

@@ -1,5 +1,5 @@
 // The code of a task while its lines are being read.
-ghost use Rattle.std.specs.Prelude.{◌≡◌, ◌+◌, ◌*◌, ◌<◌, ◌≤◌, length, min, IfOk};
+ghost use Rattle.std.specs.Prelude.{◌≡◌, ◌+◌, ◌*◌, ◌<◌, ◌≤◌, length, min, IfOk, OnOk, OnErr};
 ghost use Rattle.pyr_code.specs.Seen.{op_of, code_of};
 ghost use Rattle.pyr_code.specs.Size.{op_work, code_work};
 ghost use Rattle.pyr_bundletext.specs.Earlier as spec;
@@ -15,7 +15,7 @@ use std::marker::Model;
 use std::mem;
 
 /// The ops so far: those of each open loop, outermost first, and then those of the innermost one.
-#[derive(Debug, Drop)]
+#[derive(Drop)]
 pub struct OpenCode {
     outer: Items<OpenLoop>,
     current: Items<Op>,
@@ -72,15 +72,16 @@ impl OpenCode {
         capped_work(self.current.as_slice())
     }
 
-    /// The code with an op more that is no loop.
+    /// Appends an op that is no loop.
     #[tactic(auto, using(crate::proofs::CodeLemmas::with_op_nodes))]
-    pub fn push(mut self, op: PlainOp) -> Result<OpenCode, AllocError>
-        requires { nodes_in self < Limits.NODES }
-        ensures { IfOk result (λ code. code ≡ spec.with_op self (spec.plain_op op)) }
+    pub fn push(&mut self, op: PlainOp) -> Result<(), AllocError>
+        requires { nodes_in self.old < Limits.NODES }
+        ensures ok { OnOk result (self.new ≡ spec.with_op self.old (spec.plain_op op)) }
+        ensures err { OnErr result (self.new ≡ self.old) }
     {
         self.current.push(op.op())?;
         self.nodes += 1;
-        Ok(self)
+        Ok(())
     }
 
     /// The code with a loop opened.

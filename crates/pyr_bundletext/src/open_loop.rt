@@ -2,7 +2,7 @@ use pyr_code::Op;
 use sqlite_items::Items;
 
 /// A loop whose lines are being read.
-#[derive(Debug, Drop)]
+#[derive(Drop)]
 pub struct OpenLoop {
     /// The ops that stand before the loop, in the loop around it or in the task.
     pub before: Items<Op>,

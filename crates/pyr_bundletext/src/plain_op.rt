@@ -6,7 +6,7 @@ use pyr_code::Op;
 use pyr_num::Bin;
 
 /// An op that is no loop, with the numbers of its line.
-#[derive(Clone, Copy, Debug, PartialEq, Eq)]
+#[derive(Clone, Copy)]
 pub enum PlainOp {
     /// `push`: the word.
     Push(u64),

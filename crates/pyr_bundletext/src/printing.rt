@@ -1,10 +1,10 @@
 // Writing a bundle: one function for each list.
-ghost use Rattle.std.specs.Prelude.{◌≡◌, ◌≤◌, ◌++◌, true, map, length, OnOk, IfOk};
+ghost use Rattle.std.specs.Prelude.{◌≡◌, ◌≤◌, [], ◌++◌, true, map, length, OnOk, IfOk};
 ghost use Rattle.std.specs.List.{flat_map, AllByRecursion};
 ghost use Rattle.pyr_num.specs.Name.{is_name};
 ghost use Rattle.pyr_bundle.specs.Parts.{raw_of, raw_task_of, raw_instr_of, raw_channel_of};
 ghost use Rattle.pyr_bundletext.specs.Text.{datum_text, task_text, print_text, channel_text, instr_text, processors_text, text_of};
-ghost use Rattle.pyr_bundletext.specs.Spelled.{IsWord, IsSpelledTask, IsSpelledChannel, IsSpelledInstr};
+ghost use Rattle.pyr_bundletext.specs.Spelled.{IsWord, IsSpelled, IsSpelledTask, IsSpelledChannel, IsSpelledInstr};
 ghost use Rattle.pyr_bundletext.specs.Answer.{StandsFor};
 
 use crate::lines::{put_datum_ids, put_line};
@@ -133,6 +133,22 @@ fn put_processors(text: &mut Vec<u8>, bundle: &Bundle) -> Result<(), AllocError>
     Ok(())
 }
 
+// Writes all lines of a bundle.
+fn put_bundle(text: &mut Vec<u8>, bundle: &Bundle) -> Result<(), AllocError>
+    requires empty { text.old.items ≡ [] }
+    ensures text { OnOk result (text.new.items ≡ text_of (raw_of bundle.now)) }
+    ensures words { OnOk result (IsSpelled (raw_of bundle.now)) }
+{
+    put_line(text, b"pyrros", &[1])?;
+    put_line(text, b"processors", &[u64::from(bundle.processors())])?;
+    put_datums(text, bundle)?;
+    put_tasks(text, bundle)?;
+    put_prints(text, bundle.prints())?;
+    put_channels(text, bundle.channels())?;
+    put_processors(text, bundle)?;
+    put_line(text, b"stop", &[])
+}
+
 /// The text of a bundle, in its one spelling. Every bundle has a text of at most `Limits::INPUT`
 /// bytes, so `read_bundle` can read it again.
 pub fn print_bundle(alloc: Global, bundle: &Bundle) -> Result<Vec<u8>, AllocError>
@@ -145,13 +161,6 @@ pub fn print_bundle(alloc: Global, bundle: &Bundle) -> Result<Vec<u8>, AllocErro
 {
     bundle.is_bundle();
     let mut text = Vec::new(alloc);
-    put_line(&mut text, b"pyrros", &[1])?;
-    put_line(&mut text, b"processors", &[u64::from(bundle.processors())])?;
-    put_datums(&mut text, bundle)?;
-    put_tasks(&mut text, bundle)?;
-    put_prints(&mut text, bundle.prints())?;
-    put_channels(&mut text, bundle.channels())?;
-    put_processors(&mut text, bundle)?;
-    put_line(&mut text, b"stop", &[])?;
+    put_bundle(&mut text, bundle)?;
     Ok(text)
 }

@@ -1,5 +1,5 @@
 // The reader of a bundle text: what the lines so far say.
-ghost use Rattle.std.specs.Prelude.{◌≡◌, ◌+◌, ◌<◌, ◌≤◌, [], ◌∷◌, ◌++◌, true, length, None, IfOk};
+ghost use Rattle.std.specs.Prelude.{◌≡◌, ◌+◌, ◌<◌, ◌≤◌, [], ◌∷◌, ◌++◌, true, length, None, Ok, Err, OnOk, IfErr};
 ghost use Rattle.pyr_code.specs.Seen.{code_of};
 ghost use Rattle.pyr_code.specs.Size.{code_work};
 ghost use Rattle.pyr_bundletext.specs.declared.stage.Stage.TheVariants as stages;
@@ -18,9 +18,10 @@ use pyr_num::{Limits, Name, Quantity};
 use sqlite_items::Items;
 use std::alloc::{AllocError, Global};
 use std::marker::Model;
+use std::mem;
 
 /// What the lines so far say. After a refusal it is of no more use.
-#[derive(Debug, Drop)]
+#[derive(Drop)]
 pub struct Reader {
     stage: Stage,
     processors: u64,
@@ -93,18 +94,29 @@ impl Reader {
         self.stage.is_stopped()
     }
 
-    /// What the lines say with one more.
-    pub fn take(self, alloc: Global, line: Line) -> Result<Reader, LineFault>
-        ensures { TakesLine self line result }
+    /// Takes one line more.
+    pub fn take(&mut self, alloc: Global, line: Line) -> Result<(), LineFault>
+        ensures ok { OnOk result (TakesLine self.old line (Ok self.new)) }
+        ensures err { IfErr result (λ fault. TakesLine self.old line (Err fault)) }
     {
-        if !self.may_stand(&line) {
+        self.check(&line)?;
+        self.advance(alloc, line)?;
+        Ok(())
+    }
+
+    // Whether the line may stand here and passes no limit.
+    fn check(&self, line: &Line) -> Result<(), LineFault>
+        ensures stands { OnOk result (spec.may_stand self.now line.now ≡ true) }
+        ensures limits { OnOk result (spec.passed_limit self.now line.now ≡ None) }
+        ensures err { IfErr result (λ fault. TakesLine self.now line.now (Err fault)) }
+    {
+        if !self.may_stand(line) {
             return Err(LineFault::Text);
         }
-        if let Some(which) = self.passed_limit(&line) {
-            return Err(LineFault::Limit { which });
+        match self.passed_limit(line) {
+            Some(which) => Err(LineFault::Limit { which }),
+            None => Ok(()),
         }
-        let reader = self.advance(alloc, line)?;
-        Ok(reader)
     }
 
     // Whether the line may stand here.
@@ -245,227 +257,255 @@ impl Reader {
 
     // Takes a line that may stand here and passes no limit.
     #[tactic(auto, unfolding(crate::specs::Faults::passed_limit, crate::specs::Tells::advance))]
-    fn advance(self, alloc: Global, line: Line) -> Result<Reader, AllocError>
-        requires stands { spec.may_stand self line ≡ true }
-        requires limits { spec.passed_limit self line ≡ None }
-        ensures { IfOk result (λ reader. reader ≡ advance self line) }
+    fn advance(&mut self, alloc: Global, line: Line) -> Result<(), AllocError>
+        requires stands { spec.may_stand self.old line ≡ true }
+        requires limits { spec.passed_limit self.old line ≡ None }
+        ensures { OnOk result (self.new ≡ advance self.old line) }
     {
         match line {
-            Line::Pyrros => Ok(self.at(Stage::Versioned)),
-            Line::Processors(count) => Ok(self.counted(count)),
             Line::Datum(name, words) => self.datum(name, words),
-            Line::Task(locals) => Ok(self.task(locals)),
-            Line::Reads(datums) => Ok(self.reading(datums)),
-            Line::Writes(datums) => Ok(self.writing(alloc, datums)),
             Line::Plain(op) => self.plain(op),
             Line::Loop(local, count) => self.open(alloc, local, count),
-            Line::Done => self.done(),
+            Line::Done => self.done(alloc),
             Line::End => self.end(alloc),
             Line::Print(datum) => self.print(datum),
             Line::Channel(channel) => self.channel(channel),
             Line::Processor(_) => self.begin(alloc),
             Line::Instr(instr) => self.instr(instr),
             Line::Stop => self.stop(alloc),
+            Line::Pyrros => {
+                self.set_stage(Stage::Versioned);
+                Ok(())
+            }
+            Line::Processors(count) => {
+                self.set_processors(count);
+                Ok(())
+            }
+            Line::Task(locals) => {
+                self.begin_task(locals);
+                Ok(())
+            }
+            Line::Reads(datums) => {
+                self.set_reads(datums);
+                Ok(())
+            }
+            Line::Writes(datums) => {
+                self.set_writes(alloc, datums);
+                Ok(())
+            }
         }
     }
 
-    fn at(mut self, stage: Stage) -> Reader
-        ensures { result ≡ record self { stage = stage } }
+    // Tells what came last.
+    fn set_stage(&mut self, stage: Stage)
+        ensures { self.new ≡ record self.old { stage = stage } }
     {
         self.stage = stage;
-        self
     }
 
-    fn counted(mut self, count: u64) -> Reader
-        ensures { result ≡ record self { stage = stages.Data; processors = count } }
+    // Takes the number of processors.
+    fn set_processors(&mut self, count: u64)
+        ensures { self.new ≡ record self.old { stage = stages.Data; processors = count } }
     {
         self.stage = Stage::Data;
         self.processors = count;
-        self
     }
 
-    fn datum(mut self, name: Name, words: u64) -> Result<Reader, AllocError>
+    // Appends a datum.
+    fn datum(&mut self, name: Name, words: u64) -> Result<(), AllocError>
         requires { words ≤ Limits.LENGTH }
-        ensures { IfOk result (λ reader. reader ≡ with_datum self name words) }
+        ensures { OnOk result (self.new ≡ with_datum self.old name words) }
     {
         let length = words as u32;
-        self.stage = Stage::Data;
         self.datums.push(RawDatum { name, length })?;
-        Ok(self)
+        self.stage = Stage::Data;
+        Ok(())
     }
 
-    fn task(mut self, locals: u64) -> Reader
+    // Begins a task.
+    fn begin_task(&mut self, locals: u64)
         requires { locals ≤ Limits.LOCALS }
-        ensures { result ≡ record self { stage = stages.TaskBegun; locals = locals } }
+        ensures { self.new ≡ record self.old { stage = stages.TaskBegun; locals = locals } }
     {
         self.stage = Stage::TaskBegun;
         self.locals = locals as u32;
-        self
     }
 
-    fn reading(mut self, datums: Items<u64>) -> Reader
-        requires { spec.all_reads self.tasks + length datums ≤ Limits.ALL_READS }
-        ensures { result ≡ record self { stage = stages.TaskReads; reads = datums } }
+    // Takes what the open task reads.
+    fn set_reads(&mut self, datums: Items<u64>)
+        requires { spec.all_reads self.old.tasks + length datums ≤ Limits.ALL_READS }
+        ensures { self.new ≡ record self.old { stage = stages.TaskReads; reads = datums } }
     {
         self.stage = Stage::TaskReads;
         self.reads = datums;
-        self
     }
 
-    fn writing(mut self, alloc: Global, datums: Items<u64>) -> Reader
-        ensures { result ≡ record self { stage = stages.Code; writes = datums; nest = no_code } }
+    // Takes what the open task writes, and begins its code.
+    fn set_writes(&mut self, alloc: Global, datums: Items<u64>)
+        ensures { self.new ≡ record self.old { stage = stages.Code; writes = datums; nest = no_code } }
     {
         self.stage = Stage::Code;
         self.writes = datums;
         self.open_code = OpenCode::new(alloc);
-        self
     }
 
+    // Appends an op that is no loop.
     #[tactic(auto, using(crate::proofs::CodeLemmas::with_op_nodes))]
-    fn plain(self, op: PlainOp) -> Result<Reader, AllocError>
-        requires nodes { nodes_in self.nest < Limits.NODES }
-        requires all { spec.all_nodes self.tasks + nodes_in self.nest < Limits.ALL_NODES }
-        ensures { IfOk result (λ reader. reader
-            ≡ record self { stage = stages.Code; nest = with_op self.nest (plain_op op) }) }
+    fn plain(&mut self, op: PlainOp) -> Result<(), AllocError>
+        requires nodes { nodes_in self.old.nest < Limits.NODES }
+        requires all { spec.all_nodes self.old.tasks + nodes_in self.old.nest < Limits.ALL_NODES }
+        ensures { OnOk result (self.new
+            ≡ record self.old { stage = stages.Code; nest = with_op self.old.nest (plain_op op) }) }
     {
-        let open_code = self.open_code.push(op)?;
-        Ok(Reader {
-            stage: Stage::Code,
-            open_code,
-            ..self
-        })
+        self.open_code.push(op)?;
+        self.stage = Stage::Code;
+        Ok(())
     }
 
-    fn open(self, alloc: Global, local: u64, count: u64) -> Result<Reader, AllocError>
-        requires nodes { nodes_in self.nest < Limits.NODES }
-        requires all { spec.all_nodes self.tasks + nodes_in self.nest < Limits.ALL_NODES }
-        ensures { IfOk result (λ reader. reader
-            ≡ record self { stage = stages.Code; nest = with_loop self.nest local count }) }
+    // Begins a loop.
+    fn open(&mut self, alloc: Global, local: u64, count: u64) -> Result<(), AllocError>
+        requires nodes { nodes_in self.old.nest < Limits.NODES }
+        requires all { spec.all_nodes self.old.tasks + nodes_in self.old.nest < Limits.ALL_NODES }
+        ensures { OnOk result (self.new
+            ≡ record self.old { stage = stages.Code; nest = with_loop self.old.nest local count }) }
     {
-        let open_code = self.open_code.open(alloc, local, count)?;
-        Ok(Reader {
-            stage: Stage::Code,
-            open_code,
-            ..self
-        })
+        let open_code = mem::replace(&mut self.open_code, OpenCode::new(alloc));
+        self.open_code = open_code.open(alloc, local, count)?;
+        self.stage = Stage::Code;
+        Ok(())
     }
 
+    // Ends the innermost loop.
     #[tactic(auto, using(crate::proofs::CodeLemmas::ended_nodes))]
-    fn done(self) -> Result<Reader, AllocError>
-        requires { 0 < length self.nest.outer }
-        ensures { IfOk result (λ reader. reader
-            ≡ record self { stage = stages.Code; nest = ended self.nest.outer self.nest.current }) }
+    fn done(&mut self, alloc: Global) -> Result<(), AllocError>
+        requires { 0 < length self.old.nest.outer }
+        ensures { OnOk result (self.new
+            ≡ record self.old { stage = stages.Code; nest = ended self.old.nest.outer self.old.nest.current }) }
     {
-        let open_code = self.open_code.close()?;
-        Ok(Reader {
-            stage: Stage::Code,
-            open_code,
-            ..self
-        })
+        let open_code = mem::replace(&mut self.open_code, OpenCode::new(alloc));
+        self.open_code = open_code.close()?;
+        self.stage = Stage::Code;
+        Ok(())
     }
 
     // Ends the open task.
-    fn end(self, alloc: Global) -> Result<Reader, AllocError>
-        requires closed { length self.nest.outer ≡ 0 }
-        requires work { code_work (code_of self.nest.current) ≤ Limits.WORK }
-        requires all { spec.all_work self.tasks + code_work (code_of self.nest.current)
+    fn end(&mut self, alloc: Global) -> Result<(), AllocError>
+        requires closed { length self.old.nest.outer ≡ 0 }
+        requires work { code_work (code_of self.old.nest.current) ≤ Limits.WORK }
+        requires all { spec.all_work self.old.tasks + code_work (code_of self.old.nest.current)
             ≤ Limits.ALL_WORK }
-        ensures { IfOk result (λ reader. reader ≡ with_task self) }
+        ensures { OnOk result (self.new ≡ with_task self.old) }
     {
         let all_reads = self.all_reads + self.reads.len() as u32;
         let all_nodes = self.all_nodes + self.open_code.nodes();
         let all_work = self.all_work + self.open_code.work();
-        let mut tasks = self.tasks;
-        tasks.push(RawTask {
+        let task = self.take_task(alloc);
+        self.tasks.push(task)?;
+        self.stage = Stage::Tasks;
+        self.all_reads = all_reads;
+        self.all_nodes = all_nodes;
+        self.all_work = all_work;
+        Ok(())
+    }
+
+    // Takes the open task out.
+    fn take_task(&mut self, alloc: Global) -> RawTask
+        ensures task { result ≡ record {
+          locals = self.old.locals;
+          reads = self.old.reads;
+          writes = self.old.writes;
+          code = self.old.nest.current;
+        } }
+        ensures rest { self.new ≡ record self.old { reads = []; writes = []; nest = no_code } }
+    {
+        RawTask {
             locals: self.locals,
-            reads: self.reads,
-            writes: self.writes,
-            code: self.open_code.into_ops(),
-        })?;
-        Ok(Reader {
-            stage: Stage::Tasks,
-            tasks,
-            reads: Items::new(alloc),
-            writes: Items::new(alloc),
-            open_code: OpenCode::new(alloc),
-            all_reads,
-            all_nodes,
-            all_work,
-            ..self
-        })
+            reads: mem::replace(&mut self.reads, Items::new(alloc)),
+            writes: mem::replace(&mut self.writes, Items::new(alloc)),
+            code: mem::replace(&mut self.open_code, OpenCode::new(alloc)).into_ops(),
+        }
     }
 
-    fn print(mut self, datum: u64) -> Result<Reader, AllocError>
-        ensures { IfOk result (λ reader. reader
-            ≡ record self { stage = stages.Prints; prints = self.prints ++ datum ∷ [] }) }
+    // Appends a printed datum.
+    fn print(&mut self, datum: u64) -> Result<(), AllocError>
+        ensures { OnOk result (self.new
+            ≡ record self.old { stage = stages.Prints; prints = self.old.prints ++ datum ∷ [] }) }
     {
-        self.stage = Stage::Prints;
         self.prints.push(datum)?;
-        Ok(self)
+        self.stage = Stage::Prints;
+        Ok(())
     }
 
-    fn channel(mut self, channel: RawChannel) -> Result<Reader, AllocError>
-        ensures { IfOk result (λ reader. reader
-            ≡ record self { stage = stages.Channels; channels = self.channels ++ channel ∷ [] }) }
+    // Appends a channel.
+    fn channel(&mut self, channel: RawChannel) -> Result<(), AllocError>
+        ensures { OnOk result (self.new
+            ≡ record self.old { stage = stages.Channels; channels = self.old.channels ++ channel ∷ [] }) }
     {
-        self.stage = Stage::Channels;
         self.channels.push(channel)?;
-        Ok(self)
+        self.stage = Stage::Channels;
+        Ok(())
     }
 
     // Begins the next processor.
-    fn begin(self, alloc: Global) -> Result<Reader, AllocError>
-        requires { self.begun < self.processors }
-        ensures { IfOk result (λ reader. reader ≡ with_processor self) }
+    fn begin(&mut self, alloc: Global) -> Result<(), AllocError>
+        requires { self.old.begun < self.old.processors }
+        ensures { OnOk result (self.new ≡ with_processor self.old) }
     {
         if self.begun == 0 {
-            return Ok(self.begun_one());
+            self.begin_one();
+            return Ok(());
         }
-        let reader = self.closed(alloc)?;
-        Ok(reader.begun_one())
+        self.close(alloc)?;
+        self.begin_one();
+        Ok(())
     }
 
-    // With a processor more.
-    fn begun_one(mut self) -> Reader
-        requires { self.begun < self.processors }
-        ensures { result ≡ record self { stage = stages.Processor; begun = self.begun + 1 } }
+    // Counts a processor more.
+    fn begin_one(&mut self)
+        requires { self.old.begun < self.old.processors }
+        ensures { self.new ≡ record self.old { stage = stages.Processor; begun = self.old.begun + 1 } }
     {
         self.stage = Stage::Processor;
         self.begun += 1;
-        self
     }
 
-    fn instr(mut self, instr: RawInstr) -> Result<Reader, AllocError>
-        requires { instr_count self < Limits.INSTRUCTIONS }
-        ensures { IfOk result (λ reader. reader
-            ≡ record self { stage = stages.Processor; instrs = self.instrs ++ instr ∷ [] }) }
+    // Appends an instruction of the last processor.
+    fn instr(&mut self, instr: RawInstr) -> Result<(), AllocError>
+        requires { instr_count self.old < Limits.INSTRUCTIONS }
+        ensures { OnOk result (self.new
+            ≡ record self.old { stage = stages.Processor; instrs = self.old.instrs ++ instr ∷ [] }) }
     {
-        self.stage = Stage::Processor;
-        self.instr_count += 1;
         self.instrs.push(instr)?;
-        Ok(self)
+        self.instr_count += 1;
+        self.stage = Stage::Processor;
+        Ok(())
     }
 
-    fn stop(self, alloc: Global) -> Result<Reader, AllocError>
-        ensures { IfOk result (λ reader. reader
-            ≡ record self { stage = stages.Stopped; code = self.code ++ self.instrs ∷ []; instrs = [] }) }
+    // Ends the text.
+    fn stop(&mut self, alloc: Global) -> Result<(), AllocError>
+        ensures { OnOk result (self.new ≡ record self.old {
+          stage = stages.Stopped;
+          code = self.old.code ++ self.old.instrs ∷ [];
+          instrs = [];
+        }) }
     {
-        let reader = self.closed(alloc)?;
-        Ok(reader.at(Stage::Stopped))
+        self.close(alloc)?;
+        self.set_stage(Stage::Stopped);
+        Ok(())
     }
 
-    // With the instructions of the last processor behind those of the others.
-    fn closed(self, alloc: Global) -> Result<Reader, AllocError>
-        ensures { IfOk result (λ reader. reader
-            ≡ record self { code = self.code ++ self.instrs ∷ []; instrs = [] }) }
+    // Puts the instructions of the last processor behind those of the others. They are lost where
+    // memory runs out, so they are counted anew once they stand there.
+    fn close(&mut self, alloc: Global) -> Result<(), AllocError>
+        ensures { OnOk result (self.new
+            ≡ record self.old { code = self.old.code ++ self.old.instrs ∷ []; instrs = [] }) }
     {
-        let mut code = self.code;
-        code.push(self.instrs)?;
-        Ok(Reader {
-            code,
-            instrs: Items::new(alloc),
-            ..self
-        })
+        let instrs = mem::replace(&mut self.instrs, Items::new(alloc));
+        let count = instrs.len() as u32;
+        self.instr_count -= count;
+        self.code.push(instrs)?;
+        self.instr_count += count;
+        Ok(())
     }
 
     /// The parts that the lines say.

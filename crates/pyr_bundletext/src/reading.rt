@@ -1,6 +1,7 @@
 // The reader of bundle texts.
-ghost use Rattle.std.specs.Prelude.{◌≡◌, ◌≤◌, length, IfOk, IfErr};
+ghost use Rattle.std.specs.Prelude.{◌≡◌, ◌≤◌, [], length, Ok, Err, OnOk, IfOk, IfErr};
 ghost use Rattle.pyr_bundletext.specs.Answer.{StandsFor, IsFaultOf};
+ghost use Rattle.pyr_bundletext.specs.Earlier.{said_by, raw_said};
 ghost use Rattle.pyr_bundletext.specs.Tells.{TakesBytes};
 
 use crate::BundleTextFault;
@@ -25,28 +26,40 @@ pub fn read_bundle(alloc: Global, text: &[u8]) -> Result<RawBundle, BundleTextFa
     ensures fault { IfErr result (IsFaultOf text.now) }
 {
     let mut reader = Reader::new(alloc);
+    read_lines(alloc, &mut reader, text)?;
+    Ok(reader.finish())
+}
+
+// Takes all lines of the text.
+fn read_lines(alloc: Global, reader: &mut Reader, text: &[u8]) -> Result<(), BundleTextFault>
+    requires fresh { reader.old ≡ said_by [] }
+    requires limit { length text.now ≤ Limits.INPUT }
+    ensures bundle { OnOk result (StandsFor text.now (raw_said reader.new)) }
+    ensures fault { IfErr result (IsFaultOf text.now) }
+{
     let mut rest = text;
     let mut number = 1u32;
     while !reader.is_stopped() {
         let Some((line, behind)) = first_line(rest) else {
             return Err(BundleTextFault::BadText { line: number });
         };
-        reader = match take_line(alloc, reader, line) {
-            Ok(reader) => reader,
+        match take_line(alloc, reader, line) {
+            Ok(()) => {}
             Err(fault) => return Err(fault.at_line(number)),
-        };
+        }
         rest = behind;
         number += 1;
     }
     if !rest.is_empty() {
         return Err(BundleTextFault::BadText { line: number });
     }
-    Ok(reader.finish())
+    Ok(())
 }
 
-// What the lines say with one more, which has these bytes.
-fn take_line(alloc: Global, reader: Reader, line: &[u8]) -> Result<Reader, LineFault>
-    ensures { TakesBytes reader line.now result }
+// Takes the line with these bytes.
+fn take_line(alloc: Global, reader: &mut Reader, line: &[u8]) -> Result<(), LineFault>
+    ensures ok { OnOk result (TakesBytes reader.old line.now (Ok reader.new)) }
+    ensures err { IfErr result (λ fault. TakesBytes reader.old line.now (Err fault)) }
 {
     let line = read_line(alloc, line)?;
     reader.take(alloc, line)

@@ -1,5 +1,5 @@
 /// Why code is refused.
-#[derive(Clone, Copy, Debug, PartialEq, Eq, Hash)]
+#[derive(Clone, Copy, Debug, PartialEq, Eq)]
 pub enum CodeFault {
     /// The first fault of the code, in text order. The place is the number of an op, from 0, those
     /// within loops counted too; at the end of the whole code it is the count of ops.
@@ -9,7 +9,7 @@ pub enum CodeFault {
 }
 
 /// What is wrong with an op. Of several kinds at one op, the first in this order is told.
-#[derive(Clone, Copy, Debug, PartialEq, Eq, Hash)]
+#[derive(Clone, Copy, Debug, PartialEq, Eq)]
 pub enum BadKind {
     /// The shape has no such local.
     Local,

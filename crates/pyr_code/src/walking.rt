@@ -24,7 +24,7 @@ pub fn walk(ops: &[Op], shape: Shape) -> Result<(), CodeFault>
 }
 
 // The number of the next op, and the height of the stack before it.
-#[derive(Clone, Copy, Debug)]
+#[derive(Clone, Copy)]
 struct Reached {
     place: u32,
     height: u32,

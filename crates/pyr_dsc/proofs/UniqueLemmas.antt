@@ -1,5 +1,5 @@
 -- A graph has one run.
-use Rattle.std.proofs.Common.{◌≡◌, ℕ, suc, ◌<◌, ◌≤◌, true, false, Some, List, [], ◌∷◌, refl, arith, ap, sym, ◌∙◌, length}
+use Rattle.std.proofs.Common.{◌≡◌, ℕ, ◌<◌, ◌≤◌, true, false, Some, List, [], ◌∷◌, refl, arith, ap, sym, ◌∙◌}
 use Rattle.std.specs.Prelude.{not, slice_index}
 use Rattle.std.specs.List.{list_all}
 use Rattle.pyr_graph.specs.declared.clustering.Step.{Step}

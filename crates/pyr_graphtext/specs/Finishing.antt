@@ -44,17 +44,21 @@ names_of names = map (λ t. name_of names t.0)
 abbrev pub system_named : ProgramNames → List TaskParts → List DatumParts → System
 system_named names tasks datums = system_of tasks datums (datum_ids names.datums names.prints)
 
+-- the first fault of the whole text, where its tasks are this system
+abbrev pub Refuses : System → List Name → List Name → ProgramFault → Type 0
+Refuses s datums tasks NoTask = IsFault s graph_faults.NoTask
+Refuses s datums tasks (NoWriter name) =
+    (d : DatumId) × IsFault s (graph_faults.NoWriter d) × (name ≡ name_of datums d.0)
+Refuses s datums tasks (Cycle names) =
+    (list : List TaskId) × IsFault s (graph_faults.Cycle list) × (names ≡ names_of tasks list)
+Refuses s datums tasks Memory = ⊤
+Refuses s datums tasks fault = ⊥
+
 -- the program of this system, these names and these bodies, or the first fault of the whole text
 abbrev pub Makes : System → List Name → List Name → List BodyParts
     → Result ProgramParts ProgramFault → Type 0
 Makes s datums tasks bodies (Ok p) = IsSound s × (p ≡ program_of s datums tasks bodies)
-Makes s datums tasks bodies (Err NoTask) = IsFault s graph_faults.NoTask
-Makes s datums tasks bodies (Err (NoWriter name)) =
-    (d : DatumId) × IsFault s (graph_faults.NoWriter d) × (name ≡ name_of datums d.0)
-Makes s datums tasks bodies (Err (Cycle names)) =
-    (list : List TaskId) × IsFault s (graph_faults.Cycle list) × (names ≡ names_of tasks list)
-Makes s datums tasks bodies (Err Memory) = ⊤
-Makes s datums tasks bodies (Err fault) = ⊥
+Makes s datums tasks bodies (Err fault) = Refuses s datums tasks fault
 
 -- the same of what a reader keeps
 abbrev pub Finishes : State → Result ProgramParts ProgramFault → Type 0

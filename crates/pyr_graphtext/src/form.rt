@@ -2,7 +2,7 @@
 use pyr_num::{Name, NameList};
 
 /// What a line says that is no line of a body.
-#[derive(Debug, Drop)]
+#[derive(Drop)]
 pub enum Form {
     /// A datum: its name, the number of its words, and its communication weight.
     Data(Name, u64, u64),

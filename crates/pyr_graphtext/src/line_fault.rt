@@ -7,7 +7,7 @@ use pyr_num::{Name, Quantity};
 use std::alloc::{AllocError, AllocFailed};
 
 /// What is wrong with a line.
-#[derive(Clone, Copy, Debug, PartialEq, Eq)]
+#[derive(Clone, Copy)]
 pub enum LineFault {
     /// It is no line that may stand here.
     Text,

@@ -1,10 +1,11 @@
 // The reader of a text: what the lines so far say.
-ghost use Rattle.std.specs.Prelude.{◌≡◌, ◌+◌, ◌<◌, ◌≤◌, ◌^◌, IsTrue, OnOk, None, length, nat_le, not};
+ghost use Rattle.std.specs.Prelude.{◌≡◌, ◌+◌, ◌<◌, ◌≤◌, ◌^◌, IsTrue, OnOk, IfOk, None, length, nat_le, not};
 ghost use Rattle.pyr_num.specs.declared.limits.Quantity.TheVariants as quantities;
 ghost use Rattle.pyr_body.specs.Size.{statements_nodes, statements_work};
 ghost use Rattle.pyr_graphtext.specs.declared.form.Form.TheVariants as forms;
 ghost use Rattle.pyr_graphtext.specs.Faults as spec;
 ghost use Rattle.pyr_graphtext.specs.Statements.{unless};
+ghost use Rattle.pyr_graphtext.specs.Earlier.{datum_ids};
 ghost use Rattle.pyr_graphtext.specs.State.{stage_in};
 ghost use Rattle.pyr_graphtext.specs.Tells.{Tells};
 ghost use Rattle.pyr_graphtext.specs.Taking as taking;
@@ -29,7 +30,7 @@ use crate::{NameKind, Program, ProgramFault};
 use pyr_body::Body;
 use pyr_graph::{DatumParts, TaskParts};
 use pyr_lex::{LexFault, SpannedToken, Token, Word};
-use pyr_num::{Limits, Name, NameList, Quantity};
+use pyr_num::{DatumId, Limits, Name, NameList, Quantity};
 use sqlite_items::Items;
 use std::alloc::Global;
 use std::marker::Model;
@@ -205,15 +206,33 @@ impl Reader {
             self.old.datum_names self.old.all_reads names) }
         ensures ok { OnOk result (self.new ≡ taking.with_reads self.old names) }
     {
-        let stage = self.stage();
+        let reads = self.ids_to_read(alloc, &names)?;
         let Some(task) = self.open_task.take() else {
             return Err(TEXT);
         };
-        check_reads(alloc, stage, &self.datum_names, self.all_reads, &names)?;
-        let reads = Items::from_vec(datum_ids(alloc, &self.datum_names, names.as_slice())?);
         self.all_reads += names.len() as u32;
         self.open_task = Some(task.reading(reads, names));
         Ok(())
+    }
+
+    // The data that a line `reads` lists, where it may stand here.
+    fn ids_to_read(&self, alloc: Global, names: &NameList) -> Result<Items<DatumId>, LineFault>
+        ensures fault { Tells result (spec.reads_fault (stage_in self.now.open_task)
+            self.now.datum_names self.now.all_reads names.now) }
+        ensures ids { IfOk result (λ ids. ids ≡ datum_ids self.now.datum_names names.now) }
+        ensures few { OnOk result (length names.now ≤ Limits.READS) }
+        ensures few_in_all { OnOk result
+            (self.now.all_reads + length names.now ≤ Limits.ALL_READS) }
+    {
+        check_reads(
+            alloc,
+            self.stage(),
+            &self.datum_names,
+            self.all_reads,
+            names,
+        )?;
+        let ids = datum_ids(alloc, &self.datum_names, names.as_slice())?;
+        Ok(Items::from_vec(ids))
     }
 
     #[tactic(auto, unfolding(crate::specs::Faults::writes_fault))]
@@ -222,15 +241,25 @@ impl Reader {
             self.old.datum_names self.old.written names) }
         ensures ok { OnOk result (self.new ≡ taking.with_writes self.old names) }
     {
-        let stage = self.stage();
+        let writes = self.ids_to_write(alloc, &names)?;
+        insert_names(&mut self.written, names.as_slice())?;
         let Some(task) = self.open_task.take() else {
             return Err(TEXT);
         };
-        check_writes(alloc, stage, &self.datum_names, &self.written, &names)?;
-        let writes = Items::from_vec(datum_ids(alloc, &self.datum_names, names.as_slice())?);
-        insert_names(&mut self.written, names.as_slice())?;
         self.open_task = Some(task.writing(alloc, writes, names, self.nodes)?);
         Ok(())
+    }
+
+    // The data that a line `writes` lists, where it may stand here.
+    fn ids_to_write(&self, alloc: Global, names: &NameList) -> Result<Items<DatumId>, LineFault>
+        ensures fault { Tells result (spec.writes_fault (stage_in self.now.open_task)
+            self.now.datum_names self.now.written names.now) }
+        ensures ids { IfOk result (λ ids. ids ≡ datum_ids self.now.datum_names names.now) }
+        ensures few { OnOk result (length names.now ≤ Limits.WRITES) }
+    {
+        check_writes(alloc, self.stage(), &self.datum_names, &self.written, names)?;
+        let ids = datum_ids(alloc, &self.datum_names, names.as_slice())?;
+        Ok(Items::from_vec(ids))
     }
 
     // Adds a task whose lines are all read.
@@ -343,7 +372,7 @@ impl Reader {
             tasks: task_names,
             prints,
         };
-        make_program(alloc, names, datums, tasks, bodies)
+        make_program(alloc, &names, datums, tasks, bodies)
     }
 }
 

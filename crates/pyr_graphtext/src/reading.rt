@@ -1,6 +1,7 @@
 // The reader of graph texts.
-ghost use Rattle.std.specs.Prelude.{◌≡◌, ◌≤◌, IfOk, IfErr, length};
+ghost use Rattle.std.specs.Prelude.{◌≡◌, ◌≤◌, Ok, OnOk, IfOk, IfErr, length};
 ghost use Rattle.pyr_graphtext.specs.Answer.{StandsFor, IsFaultOf};
+ghost use Rattle.pyr_graphtext.specs.Seen.{no_lines};
 ghost use Rattle.pyr_graphtext.specs.Finishing.{ReadsLines};
 
 use crate::reader::Reader;
@@ -32,6 +33,17 @@ fn read_lines(alloc: Global, text: &[u8]) -> Result<Reader, ProgramFault>
     ensures { ReadsLines text.now result }
 {
     let mut reader = Reader::new(alloc);
+    take_lines(alloc, &mut reader, text)?;
+    Ok(reader)
+}
+
+// Has a reader that took no line take all lines.
+fn take_lines(alloc: Global, reader: &mut Reader, text: &[u8]) -> Result<(), ProgramFault>
+    requires new { reader.old ≡ no_lines }
+    requires short { length text.now ≤ Limits.INPUT }
+    ensures read { OnOk result (ReadsLines text.now (Ok reader.new)) }
+    ensures fault { IfErr result (IsFaultOf text.now) }
+{
     let mut rest = text;
     let mut number = 1u32;
     while !rest.is_empty() {
@@ -46,5 +58,5 @@ fn read_lines(alloc: Global, text: &[u8]) -> Result<Reader, ProgramFault>
     if reader.is_open() {
         return Err(ProgramFault::BadText { line: number });
     }
-    Ok(reader)
+    Ok(())
 }

@@ -1,6 +1,7 @@
 //! The lexer: the tokens of a line of a graph text, with the place of each, or the answer that the
 //! line has none; how many of its brackets are open at once; and tokens and numbers written out as
-//! canonical text. What a line's tokens are stands in `specs/Line.antt`, and that this decides them is a law.
+//! canonical text. What a line's tokens are stands in `specs/Line.antt`, and that this decides them
+//! is a law.
 #![tactic(auto)]
 
 mod brackets;

@@ -2,7 +2,7 @@
 use crate::Token;
 
 /// A token, and where it stands in its line.
-#[derive(Clone, Copy, Debug, PartialEq, Eq, Hash)]
+#[derive(Clone, Copy, Debug, PartialEq, Eq)]
 pub struct SpannedToken {
     /// The token.
     pub token: Token,

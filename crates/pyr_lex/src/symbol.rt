@@ -3,7 +3,7 @@ ghost use Rattle.std.specs.Prelude.{◌≡◌};
 ghost use Rattle.pyr_lex.specs.Symbol.{symbol_text, front_symbol};
 
 /// A token that is neither a name nor a number nor a reserved word.
-#[derive(Clone, Copy, Debug, PartialEq, Eq, Hash)]
+#[derive(Clone, Copy, Debug, PartialEq, Eq)]
 pub enum Symbol {
     /// `(`
     ParenOpen,

@@ -3,7 +3,7 @@ use crate::{Symbol, Word};
 use pyr_num::Name;
 
 /// The least part of a line that has a meaning.
-#[derive(Clone, Copy, Debug, PartialEq, Eq, Hash)]
+#[derive(Clone, Copy, Debug, PartialEq, Eq)]
 pub enum Token {
     /// A name of a datum, a task or a local.
     Name(Name),

@@ -12,7 +12,7 @@ use sqlite_items::Items;
 use std::alloc::{AllocError, Global};
 
 /// A send whose datum its receiver never receives.
-#[derive(Clone, Copy, Debug)]
+#[derive(Clone, Copy)]
 pub struct Unreceived {
     /// The sender.
     pub from: ProcId,

@@ -31,7 +31,7 @@ impl Model for TagLocal {
 
 /// The tag machine of a bundle: its parcels and store entries are data without words, and it
 /// executes no task. `new` takes all memory of a run.
-#[derive(Debug, Drop)]
+#[derive(Drop)]
 pub struct Tags<'a> {
     bundle: &'a Bundle,
     stations: Vec<Station>,

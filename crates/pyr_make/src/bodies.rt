@@ -76,9 +76,17 @@ fn combined(alloc: Global, a: u32, b: u32, task: u32) -> Result<Expr, AllocError
         ≡ bin_of Bin.Add (bin_of Bin.Mul (Get a (Num 0)) (Num 3))
         (bin_of Bin.Add (Get b (Num 0)) (Num task))) }
 {
-    let product = binary(alloc, Bin::Mul, word(alloc, a)?, Expr::Num(3))?;
-    let sum = binary(alloc, Bin::Add, word(alloc, b)?, Expr::Num(u64::from(task)))?;
+    let product = with_number(alloc, Bin::Mul, a, 3)?;
+    let sum = with_number(alloc, Bin::Add, b, task)?;
     binary(alloc, Bin::Add, product, sum)
+}
+
+// An operator with the word of a slot and a number.
+fn with_number(alloc: Global, op: Bin, slot: u32, number: u32) -> Result<Expr, AllocError>
+    ensures { IfOk result (λ e. expr_of e ≡ bin_of op (Get slot (Num 0)) (Num number)) }
+{
+    let word = word(alloc, slot)?;
+    binary(alloc, op, word, Expr::Num(u64::from(number)))
 }
 
 // The one word of a slot.

@@ -4,7 +4,7 @@ ghost use Rattle.pyr_make.specs.Layered.{layered_system, layered_program};
 
 use crate::bodies::body_list;
 use crate::lists::{datum_list, print_list, task_list};
-use crate::names::{datum_names, task_names};
+use crate::names::all_names;
 use pyr_graph::{Graph, GraphFault};
 use pyr_graphtext::Program;
 use pyr_num::Limits;
@@ -23,10 +23,9 @@ pub fn make(alloc: Global, tasks: u32) -> Result<Program, AllocError>
     requires few { tasks ≤ Limits.TASKS }
     ensures { IfOk result (λ program. program ≡ layered_program tasks) }
 {
-    let graph = layered_graph(alloc, tasks)?;
-    let datums = datum_names(alloc, tasks)?;
-    let names = task_names(alloc, tasks)?;
+    let (datums, names) = all_names(alloc, tasks)?;
     let bodies = body_list(alloc, tasks)?;
+    let graph = layered_graph(alloc, tasks)?;
     Ok(Program::new(graph, datums, names, bodies))
 }
 

@@ -7,9 +7,9 @@ ghost use Rattle.pyr_make.specs.Layered.{layered_datum_name, layered_task_name};
 use pyr_num::Name;
 use std::alloc::{AllocError, Global};
 
-/// The names of the data, by number.
+// The names of the data, by number.
 #[tactic(auto, using(crate::proofs::MadeLists::made_more, crate::proofs::NameLemmas::datum_is_named))]
-pub fn datum_names(alloc: Global, datums: u32) -> Result<Vec<Name>, AllocError>
+fn datum_names(alloc: Global, datums: u32) -> Result<Vec<Name>, AllocError>
     ensures { IfOk result (λ names. names.items
         ≡ map layered_datum_name (range_with_len 0 datums)) }
 {
@@ -20,9 +20,9 @@ pub fn datum_names(alloc: Global, datums: u32) -> Result<Vec<Name>, AllocError>
     Ok(names)
 }
 
-/// The names of the tasks, by number.
+// The names of the tasks, by number.
 #[tactic(auto, using(crate::proofs::MadeLists::made_more, crate::proofs::NameLemmas::task_is_named))]
-pub fn task_names(alloc: Global, tasks: u32) -> Result<Vec<Name>, AllocError>
+fn task_names(alloc: Global, tasks: u32) -> Result<Vec<Name>, AllocError>
     ensures { IfOk result (λ names. names.items
         ≡ map layered_task_name (range_with_len 0 tasks)) }
 {
@@ -31,6 +31,18 @@ pub fn task_names(alloc: Global, tasks: u32) -> Result<Vec<Name>, AllocError>
         names.push(numbered(alloc, "t", task)?)?;
     }
     Ok(names)
+}
+
+/// The names of the data and of the tasks where there are so many of each, by number.
+pub fn all_names(alloc: Global, tasks: u32) -> Result<(Vec<Name>, Vec<Name>), AllocError>
+    ensures datums { IfOk result (λ names. names.0.items
+        ≡ map layered_datum_name (range_with_len 0 tasks)) }
+    ensures tasks { IfOk result (λ names. names.1.items
+        ≡ map layered_task_name (range_with_len 0 tasks)) }
+{
+    let of_datums = datum_names(alloc, tasks)?;
+    let of_tasks = task_names(alloc, tasks)?;
+    Ok((of_datums, of_tasks))
 }
 
 // The name of these letters with a number behind them.

@@ -14,7 +14,7 @@ use std::cmp::Reverse;
 
 /// A cluster with its load. The heavier one is the smaller, and of equals the one with the smaller
 /// number.
-#[derive(Clone, Copy, Debug, PartialEq, Eq, PartialOrd, Ord)]
+#[derive(Clone, Copy, PartialEq, Eq, PartialOrd, Ord)]
 pub(crate) struct Weighed {
     /// The sum of the costs of its tasks, in abstract time units.
     pub load: Reverse<u64>,

@@ -1,7 +1,7 @@
 // How large the inputs of the program may be.
 
 /// What a limit is about. Where several limits are passed at one place, the first variant is told.
-#[derive(Clone, Copy, Debug, PartialEq, Eq, PartialOrd, Ord, Hash)]
+#[derive(Clone, Copy, Debug, PartialEq, Eq)]
 pub enum Quantity {
     /// The bytes of a text.
     Input,

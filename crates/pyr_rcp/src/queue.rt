@@ -7,7 +7,7 @@ use std::alloc::{AllocError, Global};
 use std::collections::BTreeSet;
 
 /// A ready task, and when it can start on its processor, in abstract time units.
-#[derive(Clone, Copy, Debug)]
+#[derive(Clone, Copy)]
 pub(crate) struct Start {
     pub start: u64,
     pub urgency: Urgency,
@@ -31,7 +31,7 @@ impl Start {
 
 /// The ready tasks of one processor. Those whose data are there when it is free are kept by their
 /// urgency, the others by when their data come.
-#[derive(Debug, Drop)]
+#[derive(Drop)]
 pub(crate) struct Queue {
     /// When the processor is free, in abstract time units.
     pub end: u64,

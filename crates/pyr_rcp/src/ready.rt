@@ -14,7 +14,7 @@ use pyr_num::{ProcId, TaskId};
 use std::alloc::{AllocError, Global};
 
 /// A ready task on its processor.
-#[derive(Clone, Copy, Debug)]
+#[derive(Clone, Copy)]
 pub(crate) struct Head {
     pub processor: u32,
     pub task: Start,
@@ -45,7 +45,7 @@ fn empty_queues(alloc: Global, processors: u32) -> Result<Vec<Queue>, AllocError
 }
 
 /// The ready tasks, by processor.
-#[derive(Debug, Drop)]
+#[derive(Drop)]
 pub(crate) struct Ready {
     pub queues: Vec<Queue>,
 }

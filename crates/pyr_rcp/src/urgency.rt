@@ -11,7 +11,7 @@ use std::cmp::Ordering;
 
 /// A task with its mapped bottom level, in abstract time units. The greater level comes first, on a
 /// tie the smaller number.
-#[derive(Clone, Copy, Debug, PartialEq, Eq)]
+#[derive(Clone, Copy, PartialEq, Eq)]
 pub(crate) struct Urgency {
     pub level: u64,
     pub task: TaskId,

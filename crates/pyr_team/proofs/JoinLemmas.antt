@@ -1,6 +1,8 @@
 -- One element goes from what is left to what is done.
-use Rattle.std.proofs.Common.{◌≡◌, ℕ, ◌+◌, ◌≤◌, List, [], ◌∷◌, ◌++◌, length, map, sym, ap, subst, ◌∙◌, append_assoc, arith}
+use Rattle.std.proofs.Common.{◌≡◌, Bool, true, false, refl, ℕ, ◌+◌, ◌≤◌, List, [], ◌∷◌, ◌++◌, length, map, sym, ap, subst, ◌∙◌, append_assoc, arith}
+use Rattle.std.specs.Bool.{then_some}
 use Rattle.std.specs.List.{AllZip}
+use Rattle.std.specs.Option.{IfSome}
 use Rattle.std.proofs.lemmas.List.{map-append, append-nil}
 use Rattle.std.proofs.lemmas.List.Elements.{AllZip-push}
 
@@ -40,3 +42,8 @@ goes_all R f all done g = subst (λ l. AllZip R l done) (sym (append-nil g.begin
 pub moved : {X : Type 0} (done new : List X) (x y : X) (rest left all : List X) → done ++ rest ≡ all → rest ≡ x ∷ left → y ≡ x → new ≡ done ++ y ∷ [] → new ++ left ≡ all
 moved done new x y rest left all e next is grown =
     ap (λ l. l ++ left) grown ∙ append_assoc done (y ∷ []) left ∙ ap (λ z. done ++ (z ∷ left)) is ∙ ap (λ l. done ++ l) (sym next) ∙ e
+
+-- what holds where the answer is yes holds of what is there then
+pub if_there : {X : Type 0} (P : X → Type 0) (b : Bool) (x : X) → (b ≡ true → P x) → IfSome (then_some b x) P
+if_there P true x holds = holds refl
+if_there P false x holds = tt

@@ -2,7 +2,7 @@
 use std::sync::{Condvar, Mutex, Wait};
 
 // What the gate says.
-#[derive(Clone, Copy, PartialEq, Eq, Debug)]
+#[derive(Clone, Copy, PartialEq, Eq)]
 enum Sign {
     Wait,
     Go,

@@ -1,20 +1,24 @@
 // Runs a team.
-ghost use Rattle.std.specs.Prelude.{◌≡◌, ◌∷◌, ◌<◌, ◌≤◌, [], ◌⊎◌, All, IfOk, IfSome, vec_len, vec_capacity};
+ghost use Rattle.std.specs.Prelude.{◌≡◌, ◌+◌, ◌∷◌, ◌++◌, ◌<◌, ◌≤◌, [], ◌⊎◌, All, IfOk, IfSome, length, vec_len, vec_capacity};
+ghost use Rattle.std.specs.Vec.Iter.{into_iter_items};
 ghost use Rattle.pyr_machine.specs.Machine.{start};
 ghost use Rattle.pyr_machine.specs.State.{state_world};
 ghost use Rattle.pyr_proc.specs.Seated.{AreFresh};
+ghost use Rattle.pyr_team.specs.Homes.{AreHomes, AreCopied};
 ghost use Rattle.pyr_team.specs.Team.{Prints, HaveRun};
 ghost use Rattle.pyr_team.specs.Workers.{IsOf};
 
 use crate::homes::homes;
 use crate::printing::{blank, outputs_of};
 use crate::workers::run_seats;
+use pyr_bundle::Bundle;
 use pyr_machine::{Loaded, State};
-use pyr_num::Outputs;
+use pyr_num::{Outputs, ProcId, Words};
 use pyr_proc::{Pace, Processor, Seat};
 use std::alloc::{AllocError, Global};
 use std::sync::Wait;
 use std::thread::Threads;
+use std::vec::IntoIter;
 
 /// What the run of a team gives.
 #[derive(Drop)]
@@ -24,6 +28,17 @@ pub struct Team<'a> {
     /// The processors by rising number, each of which has run; or none, where the step machine made
     /// the run.
     pub ran: Vec<Processor<'a>>,
+}
+
+// Adds the seats of these processors.
+fn add_seats(processors: IntoIter<Processor<'_>>, seats: &mut Vec<Seat>)
+    requires room { vec_len seats.old + length (into_iter_items processors)
+        ≤ vec_capacity seats.old }
+    ensures { seats.new.items ≡ seats.old.items ++ into_iter_items processors.entry }
+{
+    for processor in processors {
+        seats.push_reserved(processor.into_seat());
+    }
 }
 
 // The seats of these processors: that of the first, and those of the others.
@@ -36,9 +51,7 @@ fn seats_of(alloc: Global, processors: Vec<Processor<'_>>) -> Result<(Seat, Vec<
     let Some(first) = processors.next() else {
         unreachable!()
     };
-    for processor in processors {
-        others.push_reserved(processor.into_seat());
-    }
+    add_seats(processors, &mut others);
     Ok((first.into_seat(), others))
 }
 
@@ -80,17 +93,58 @@ fn run_processors<'a, P: Pace, R: Threads + Wait + Sync>(
     }
 }
 
-// The outputs by the step machine, which makes the whole run.
-fn stepped(alloc: Global, loaded: &Loaded, mut state: State<'_>) -> Result<Outputs, AllocError>
+// The homes of the data, and a list for each printed datum.
+fn homes_and_lists(alloc: Global, bundle: &Bundle) -> Result<(Vec<ProcId>, Vec<Words>), AllocError>
+    ensures homes { IfOk result (λ r. AreHomes bundle.now r.0.items) }
+    ensures blank { IfOk result (λ r. AreCopied bundle.now 0 r.1.items) }
+{
+    let homes = homes(alloc, bundle)?;
+    let lists = blank(alloc, bundle)?;
+    Ok((homes, lists))
+}
+
+// What the run on threads gives. None where a processor wasn't to start or couldn't be started.
+fn threaded<'a, P: Pace, R: Threads + Wait + Sync>(
+    rt: &R,
+    alloc: Global,
+    loaded: &'a Loaded,
+    processors: Vec<Processor<'a>>,
+    pace: &P,
+) -> Result<Option<Team<'a>>, AllocError>
+    requires { AreFresh loaded.now.bundle 1 processors.items }
+    ensures outputs { IfOk result (λ r. IfSome r (λ team.
+        Prints loaded.now.bundle 0 team.outputs.lists)) }
+    ensures ran { IfOk result (λ r. IfSome r (λ team. HaveRun loaded.now.bundle team.ran.items)) }
+{
+    let (homes, lists) = homes_and_lists(alloc, loaded.bundle())?;
+    match run_processors(rt, alloc, loaded, processors, pace)? {
+        Some(ran) => {
+            let outputs = outputs_of(loaded, &ran, &homes, lists);
+            Ok(Some(Team { outputs, ran }))
+        }
+        None => Ok(None),
+    }
+}
+
+// What the step machine gives, which makes the whole run.
+fn stepped<'a>(
+    alloc: Global,
+    loaded: &'a Loaded,
+    mut state: State<'a>,
+) -> Result<Team<'a>, AllocError>
     requires bundle { state.bundle ≡ loaded.now.bundle }
     requires frame { state.frame ≡ 0 }
     requires start { state_world state ≡ start }
-    ensures { IfOk result (λ outputs. Prints loaded.now.bundle 0 outputs.lists) }
+    ensures outputs { IfOk result (λ team. Prints loaded.now.bundle 0 team.outputs.lists) }
+    ensures none { IfOk result (λ team. team.ran.items ≡ []) }
 {
     loaded.is_good();
     state.finish();
     let outputs = state.outputs(alloc)?;
-    Ok(outputs)
+    Ok(Team {
+        outputs,
+        ran: Vec::new(alloc),
+    })
 }
 
 /// Runs frame 0 of a bundle by its processors, each but the first on a thread of its own. All threads
@@ -118,17 +172,8 @@ pub fn run_team<'a, P: Pace, R: Threads + Wait + Sync>(
 {
     let bundle = loaded.bundle();
     let state = State::new(alloc, bundle, 0)?;
-    let lists = blank(alloc, bundle)?;
-    let homes = homes(alloc, bundle)?;
-    match run_processors(rt, alloc, loaded, processors, pace)? {
-        Some(ran) => {
-            let outputs = outputs_of(loaded, &ran, &homes, lists);
-            Ok(Team { outputs, ran })
-        }
-        None => {
-            let outputs = stepped(alloc, loaded, state)?;
-            let ran = Vec::new(alloc);
-            Ok(Team { outputs, ran })
-        }
+    match threaded(rt, alloc, loaded, processors, pace)? {
+        Some(team) => Ok(team),
+        None => stepped(alloc, loaded, state),
     }
 }

@@ -74,6 +74,26 @@ fn start<'s, 'e, P: Pace, R: Threads + Wait + Sync>(
         .ok()
 }
 
+// Starts the worker of a processor in a scope, if it is to start and can be started.
+fn start_allowed<'s, 'e, P: Pace, R: Threads + Wait + Sync>(
+    scope: &Scope<'s, &'e ()>,
+    rt: &'s R,
+    gate: &'s Gate,
+    loaded: &'s Loaded,
+    pace: &'s P,
+    p: ProcId,
+    seat: Seat,
+) -> Option<Handle>
+    requires { IsReady loaded.now.bundle seat }
+    ensures { IfSome result (λ h. seat_of h ≡ seat) }
+{
+    if pace.allow_start(p) {
+        start(scope, rt, gate, loaded, pace, seat)
+    } else {
+        None
+    }
+}
+
 // Starts a worker for each seat, of which the first is that of processor 1. False where one wasn't to
 // start, or couldn't be started.
 fn start_all<'s, 'e, P: Pace, R: Threads + Wait + Sync>(
@@ -96,14 +116,11 @@ fn start_all<'s, 'e, P: Pace, R: Threads + Wait + Sync>(
     let mut number = 0;
     for seat in seats {
         number += 1;
-        if !pace.allow_start(ProcId(number)) {
+        let Some(handle) = start_allowed(scope, rt, gate, loaded, pace, ProcId(number), seat) else {
             all = false;
             continue;
-        }
-        match start(scope, rt, gate, loaded, pace, seat) {
-            Some(handle) => handles.push_reserved(handle),
-            None => all = false,
-        }
+        };
+        handles.push_reserved(handle);
     }
     all
 }
@@ -123,6 +140,36 @@ fn join_all<R: Threads>(rt: &R, handles: Vec<Handle>, done: &mut Vec<Seat>) -> b
     all
 }
 
+// Room for the handles of so many workers, and for their seats and one more.
+fn rooms(alloc: Global, workers: usize) -> Result<(Vec<Handle>, Vec<Seat>), AllocError>
+    requires { workers < PROCESSORS }
+    ensures handles { IfOk result (λ r. (workers ≤ vec_capacity r.0) × (r.0.items ≡ [])) }
+    ensures seats { IfOk result (λ r. (workers + 1 ≤ vec_capacity r.1) × (r.1.items ≡ [])) }
+{
+    let handles = Vec::with_capacity(alloc, workers)?;
+    let done = Vec::with_capacity(alloc, workers + 1)?;
+    Ok((handles, done))
+}
+
+// Runs the first seat, and joins the workers. None where they didn't all run.
+fn run_and_join<P: Pace, R: Threads + Wait + Sync>(
+    rt: &R,
+    loaded: &Loaded,
+    mut first: Seat,
+    handles: Vec<Handle>,
+    mut done: Vec<Seat>,
+    pace: &P,
+) -> Option<Vec<Seat>>
+    requires ready { IsReady loaded.now.bundle first }
+    requires room { vec_len handles + 1 ≤ vec_capacity done }
+    requires empty { done.items ≡ [] }
+    ensures { IfSome result (λ ran. AllRan (first ∷ map seat_of handles.items) ran.items) }
+{
+    first.run(rt, loaded, 0, pace);
+    done.push_reserved(first);
+    join_all(rt, handles, &mut done).then_some(done)
+}
+
 // Runs the first seat here, and the others in a scope. None where they didn't all run.
 fn in_scope<'s, 'e, P: Pace, R: Threads + Wait + Sync>(
     scope: &Scope<'s, &'e ()>,
@@ -130,31 +177,22 @@ fn in_scope<'s, 'e, P: Pace, R: Threads + Wait + Sync>(
     alloc: Global,
     gate: &'s Gate,
     loaded: &'s Loaded,
-    mut first: Seat,
+    first: Seat,
     others: Vec<Seat>,
-    mut done: Vec<Seat>,
     pace: &'s P,
 ) -> Result<Option<Vec<Seat>>, AllocError>
     requires ready { All (IsReady loaded.now.bundle) (first ∷ others.items) }
     requires few { vec_len others < PROCESSORS }
-    requires room { vec_len others + 1 ≤ vec_capacity done }
-    requires empty { done.items ≡ [] }
     ensures { IfOk result (λ r. IfSome r (λ ran. AllRan (first ∷ others.items) ran.items)) }
 {
-    let mut handles = Vec::with_capacity(alloc, others.len())?;
+    let (mut handles, mut done) = rooms(alloc, others.len())?;
     let all_started = start_all(scope, rt, gate, loaded, pace, others, &mut handles);
     gate.decide(rt, all_started);
     if !all_started {
         join_all(rt, handles, &mut done);
         return Ok(None);
     }
-    first.run(rt, loaded, 0, pace);
-    done.push_reserved(first);
-    if join_all(rt, handles, &mut done) {
-        Ok(Some(done))
-    } else {
-        Ok(None)
-    }
+    Ok(run_and_join(rt, loaded, first, handles, done, pace))
 }
 
 /// Runs frame 0 of the seats, by rising number: the first one here, and each other on a thread of its
@@ -172,7 +210,6 @@ pub fn run_seats<P: Pace, R: Threads + Wait + Sync>(
     requires few { vec_len others < PROCESSORS }
     ensures { IfOk result (λ r. IfSome r (λ ran. AllRan (first ∷ others.items) ran.items)) }
 {
-    let done = Vec::with_capacity(alloc, others.len() + 1)?;
     let gate = Gate::new();
     let at = &gate;
     thread::scope(
@@ -180,8 +217,8 @@ pub fn run_seats<P: Pace, R: Threads + Wait + Sync>(
         rt,
         |scope| -> Result<Option<Vec<Seat>>, AllocError>
             requires { IsSync P.row × IsSync R.row × All (IsReady loaded.now.bundle) (first ∷ others.items)
-                × (vec_len others < PROCESSORS) × (vec_len others + 1 ≤ vec_capacity done) × (done.items ≡ []) }
+                × (vec_len others < PROCESSORS) }
             ensures { IfOk result (λ r. IfSome r (λ ran. AllRan (first ∷ others.items) ran.items)) }
-        { in_scope(scope, rt, alloc, at, loaded, first, others, done, pace) },
+        { in_scope(scope, rt, alloc, at, loaded, first, others, pace) },
     )
 }

@@ -1,5 +1,5 @@
 -- The defined answer is one.
-use Rattle.std.proofs.Common.{◌≡◌, ◌≢◌, ◌⊎◌, ◌<◌, ◌≤◌, [], ◌∷◌, map, unwrap_or, inl, inr, ℕ, List, Option, Some, Result, Ok, Err, length, refl, sym, ap, subst, ◌∙◌, arith}
+use Rattle.std.proofs.Common.{◌≡◌, ◌⊎◌, ◌<◌, map, inl, inr, ℕ, List, Result, Ok, Err, length, sym, ap, subst, ◌∙◌, arith}
 use Rattle.std.proofs.lemmas.Bool.{cases_lt, cases_order}
 use Rattle.pyr_num.specs.declared.limits.TheConstants.Limits.{INPUT}
 use Rattle.pyr_top.specs.declared.command.Command.{Command}
@@ -11,7 +11,6 @@ use Rattle.pyr_seq.proofs.SequentialLemmas.{outputs-same}
 use Rattle.pyr_graph.specs.System.{datum_numbers}
 use Rattle.pyr_graph.specs.Faults.{IsSound}
 use Rattle.pyr_graphtext.specs.Program.{ProgramParts, tasks_of}
-use Rattle.pyr_graphtext.specs.Sequential.{IsOrder}
 use Rattle.pyr_graphtext.specs.Answer.{StandsFor}
 use Rattle.pyr_graphtext.proofs.OneAnswer.{one_answer_is_told}
 use Rattle.pyr_compile.proofs.UniqueLemmas.{one_text}
@@ -28,7 +27,7 @@ use Rattle.pyr_top.specs.SummaryText.{summary_text}
 use Rattle.pyr_top.specs.OutputsText.{outputs_text, bundle_outputs}
 use Rattle.pyr_top.proofs.ClusterLemmas.{one_cluster_report}
 use Rattle.pyr_top.proofs.GanttLemmas.{one_gantt_report}
-use Rattle.pyr_top.specs.Answers.{IsPrinted, IsClusterReport, IsBundleText, IsGanttReport, IsTextFor, GivesText, RefusesProgram, RefusesBundle, IsCheckReport, IsRunOutput, IsTextOfLoaded, GivesLoaded, GivesSummary, check_report, Gives, Answers}
+use Rattle.pyr_top.specs.Answers.{IsPrinted, IsClusterReport, IsBundleText, IsGanttReport, IsTextFor, GivesText, RefusesProgram, RefusesBundle, IsCheckReport, IsRunOutput, IsTextOfLoaded, GivesLoaded, GivesSummary, Gives, Answers}
 
 loading : OneAnswerIsTold
 loading = one_load_answer

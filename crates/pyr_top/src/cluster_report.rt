@@ -4,6 +4,7 @@ ghost use Rattle.std.specs.List.{flat_map};
 ghost use Rattle.pyr_graph.specs.System.{task_count};
 ghost use Rattle.pyr_top.specs.ClusterReport.{step_line, cluster_report};
 
+use crate::figures::put_figure;
 use pyr_graph::{Clustering, Step};
 use pyr_graphtext::Program;
 use pyr_lex::put_number;
@@ -18,14 +19,13 @@ pub fn cluster_report(
     requires { All (λ step. step.task.0 < task_count program.now.graph) clustering.now.steps }
     ensures { IfOk result (λ text. text.items ≡ cluster_report program.now clustering.now) }
 {
-    let mut text = Vec::from_slice(alloc, b"pt")?;
-    put_number(&mut text, clustering.first)?;
+    let mut text = Vec::new(alloc);
+    put_figure(&mut text, b"pt", clustering.first)?;
     text.extend_from_slice(b"\n")?;
     for step in clustering.steps.as_slice() {
         put_step(&mut text, program, step)?;
     }
-    text.extend_from_slice(b"clusters")?;
-    put_number(&mut text, clustering.clusters.len() as u64)?;
+    put_figure(&mut text, b"clusters", clustering.clusters.len() as u64)?;
     text.extend_from_slice(b"\n")?;
     Ok(text)
 }
@@ -34,10 +34,9 @@ fn put_step(text: &mut Vec<u8>, program: &Program, step: &Step) -> Result<(), Al
     requires { step.now.task.0 < task_count program.now.graph }
     ensures { OnOk result (text.new.items ≡ text.old.items ++ step_line program.now step.now) }
 {
-    text.extend_from_slice(program.task_name(step.task).bytes())?;
-    put_number(text, u64::from(step.cluster))?;
+    let name = program.task_name(step.task);
+    put_figure(text, name.bytes(), u64::from(step.cluster))?;
     put_number(text, step.start)?;
     put_number(text, step.pt)?;
-    text.extend_from_slice(b"\n")?;
-    Ok(())
+    text.extend_from_slice(b"\n")
 }

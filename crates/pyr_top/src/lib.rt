@@ -3,6 +3,7 @@
 
 mod cluster_report;
 mod command;
+mod figures;
 mod load_messages;
 mod messages;
 mod outputs_text;

@@ -1,9 +1,10 @@
 // The lines that tell why no bundle is loaded.
-ghost use Rattle.std.specs.Prelude.{◌≡◌, ◌++◌, ◌∷◌, codes, decimal, IfOk, OnOk};
+ghost use Rattle.std.specs.Prelude.{◌≡◌, ◌++◌, codes, IfOk, OnOk};
 ghost use Rattle.pyr_loader.specs.declared.load_fault.LoadFault.TheVariants.{Law, Leftover};
 ghost use Rattle.pyr_top.specs.LoadMessages.{load_line, reason_text, stop_text, before_stop, stops_text};
 
-use crate::messages::{limit_line, text_line};
+use crate::figures::put_figure;
+use crate::messages::{put_fault_at, put_limit};
 use pyr_lex::{put_decimal, put_number};
 use pyr_loader::{LoadFault, Reason, Stop};
 use pyr_num::{DatumId, ProcId};
@@ -13,51 +14,52 @@ use std::alloc::{AllocError, Global};
 pub fn load_line(alloc: Global, fault: &LoadFault) -> Result<Vec<u8>, AllocError>
     ensures { IfOk result (λ line. line.items ≡ load_line fault.now) }
 {
+    let mut line = Vec::new(alloc);
+    put_load_fault(&mut line, fault)?;
+    Ok(line)
+}
+
+fn put_load_fault(line: &mut Vec<u8>, fault: &LoadFault) -> Result<(), AllocError>
+    ensures { OnOk result (line.new.items ≡ line.old.items ++ load_line fault.now) }
+{
     match fault {
-        LoadFault::BadText { line } => text_line(alloc, *line),
-        LoadFault::Limit { line, which } => limit_line(alloc, *line, *which),
-        LoadFault::Law { number, a, b } => law_line(alloc, *number, *a, *b),
-        LoadFault::Stuck { processors } => stuck_line(alloc, processors.as_slice()),
-        LoadFault::Leftover { from, to, datum } => leftover_line(alloc, *from, *to, *datum),
-        LoadFault::Memory => Vec::from_slice(alloc, b"no memory\n"),
+        LoadFault::BadText { line: at } => put_fault_at(line, *at, b"text", b""),
+        LoadFault::Limit { line: at, which } => put_limit(line, *at, *which),
+        LoadFault::Law { number, a, b } => put_law(line, *number, *a, *b),
+        LoadFault::Stuck { processors } => put_stuck(line, processors.as_slice()),
+        LoadFault::Leftover { from, to, datum } => put_leftover(line, *from, *to, *datum),
+        LoadFault::Memory => line.extend_from_slice(b"no memory\n"),
     }
 }
 
-fn law_line(alloc: Global, number: u32, a: u64, b: u64) -> Result<Vec<u8>, AllocError>
-    ensures { IfOk result (λ line. line.items ≡ load_line (Law number a b)) }
+fn put_law(line: &mut Vec<u8>, number: u32, a: u64, b: u64) -> Result<(), AllocError>
+    ensures { OnOk result (line.new.items ≡ line.old.items ++ load_line (Law number a b)) }
 {
-    let mut line = Vec::from_slice(alloc, b"law")?;
-    put_number(&mut line, u64::from(number))?;
-    line.extend_from_slice(b" at")?;
-    put_number(&mut line, a)?;
-    put_number(&mut line, b)?;
-    line.extend_from_slice(b"\n")?;
-    Ok(line)
+    put_figure(line, b"law", u64::from(number))?;
+    put_figure(line, b" at", a)?;
+    put_number(line, b)?;
+    line.extend_from_slice(b"\n")
 }
 
-fn leftover_line(
-    alloc: Global,
+fn put_leftover(
+    line: &mut Vec<u8>,
     from: ProcId,
     to: ProcId,
     datum: DatumId,
-) -> Result<Vec<u8>, AllocError>
-    ensures { IfOk result (λ line. line.items ≡ load_line (Leftover from to datum)) }
+) -> Result<(), AllocError>
+    ensures { OnOk result (line.new.items ≡ line.old.items ++ load_line (Leftover from to datum)) }
 {
-    let mut line = Vec::from_slice(alloc, b"leftover")?;
-    put_number(&mut line, u64::from(from.0))?;
-    put_number(&mut line, u64::from(to.0))?;
-    put_number(&mut line, u64::from(datum.0))?;
-    line.extend_from_slice(b"\n")?;
-    Ok(line)
+    put_figure(line, b"leftover", u64::from(from.0))?;
+    put_number(line, u64::from(to.0))?;
+    put_number(line, u64::from(datum.0))?;
+    line.extend_from_slice(b"\n")
 }
 
-fn stuck_line(alloc: Global, stops: &[Stop]) -> Result<Vec<u8>, AllocError>
-    ensures { IfOk result (λ line. line.items ≡ stops_text 0 stops.now ++ codes "\n") }
+fn put_stuck(line: &mut Vec<u8>, stops: &[Stop]) -> Result<(), AllocError>
+    ensures { OnOk result (line.new.items ≡ line.old.items ++ stops_text 0 stops.now ++ codes "\n") }
 {
-    let mut line = Vec::new(alloc);
-    put_stops(&mut line, stops)?;
-    line.extend_from_slice(b"\n")?;
-    Ok(line)
+    put_stops(line, stops)?;
+    line.extend_from_slice(b"\n")
 }
 
 fn put_stops(line: &mut Vec<u8>, stops: &[Stop]) -> Result<(), AllocError>
@@ -93,16 +95,8 @@ fn put_reason(line: &mut Vec<u8>, reason: Reason) -> Result<(), AllocError>
 {
     match reason {
         Reason::Ended => line.extend_from_slice(b"ended"),
-        Reason::Empty { from } => put_waiting(line, b"empty", from.0),
-        Reason::Full { to } => put_waiting(line, b"full", to.0),
-        Reason::Lacks { datum } => put_waiting(line, b"lacks", datum.0),
+        Reason::Empty { from } => put_figure(line, b"empty", u64::from(from.0)),
+        Reason::Full { to } => put_figure(line, b"full", u64::from(to.0)),
+        Reason::Lacks { datum } => put_figure(line, b"lacks", u64::from(datum.0)),
     }
-}
-
-// A word, and what is waited for.
-fn put_waiting(line: &mut Vec<u8>, word: &[u8], what: u32) -> Result<(), AllocError>
-    ensures { OnOk result (line.new.items ≡ line.old.items ++ word.now ++ 32 ∷ decimal what) }
-{
-    line.extend_from_slice(word)?;
-    put_number(line, u64::from(what))
 }

@@ -1,7 +1,7 @@
 // The lines that tell faults of graph texts.
 ghost use Rattle.std.specs.Prelude.{◌≡◌, ◌++◌, ◌∷◌, [], codes, decimal, IfOk, OnOk};
 ghost use Rattle.std.specs.List.{flat_map};
-ghost use Rattle.pyr_top.specs.Messages.{fault_line, quantity_name, kind_words, limit_line, names_line, cycle_line};
+ghost use Rattle.pyr_top.specs.Messages.{fault_line, quantity_name, kind_words, limit_line, cycle_line};
 
 use pyr_graphtext::{NameKind, ProgramFault};
 use pyr_lex::put_decimal;
@@ -12,74 +12,76 @@ use std::alloc::{AllocError, Global};
 pub fn fault_line(alloc: Global, fault: &ProgramFault) -> Result<Vec<u8>, AllocError>
     ensures { IfOk result (λ line. line.items ≡ fault_line fault.now) }
 {
+    let mut line = Vec::new(alloc);
+    put_fault(&mut line, fault)?;
+    Ok(line)
+}
+
+fn put_fault(line: &mut Vec<u8>, fault: &ProgramFault) -> Result<(), AllocError>
+    ensures { OnOk result (line.new.items ≡ line.old.items ++ fault_line fault.now) }
+{
     match fault {
-        ProgramFault::BadText { line } => text_line(alloc, *line),
-        ProgramFault::Limit { line, which } => limit_line(alloc, *line, *which),
-        ProgramFault::Names { line, kind, name } => names_line(alloc, *line, *kind, *name),
-        ProgramFault::NoTask => Vec::from_slice(alloc, b"no task\n"),
-        ProgramFault::NoWriter { name } => no_writer_line(alloc, *name),
-        ProgramFault::Cycle { names } => cycle_line(alloc, names.as_slice()),
-        ProgramFault::Memory => Vec::from_slice(alloc, b"no memory\n"),
+        ProgramFault::BadText { line: at } => put_fault_at(line, *at, b"text", b""),
+        ProgramFault::Limit { line: at, which } => put_limit(line, *at, *which),
+        ProgramFault::Names {
+            line: at,
+            kind,
+            name,
+        } => put_fault_at(line, *at, kind_words(*kind), name.bytes()),
+        ProgramFault::NoTask => line.extend_from_slice(b"no task\n"),
+        ProgramFault::NoWriter { name } => put_no_writer(line, *name),
+        ProgramFault::Cycle { names } => put_cycle(line, names.as_slice()),
+        ProgramFault::Memory => line.extend_from_slice(b"no memory\n"),
     }
 }
 
-// The beginning of a line that tells the number of a line.
-fn at_line(alloc: Global, number: u32) -> Result<Vec<u8>, AllocError>
-    ensures { IfOk result (λ line. line.items ≡ codes "line " ++ decimal number ++ codes ": ") }
+/// Appends the line on a limit that the line of this number passes.
+pub(crate) fn put_limit(line: &mut Vec<u8>, at: u32, which: Quantity) -> Result<(), AllocError>
+    ensures { OnOk result (line.new.items ≡ line.old.items ++ limit_line at which) }
 {
-    let mut line = Vec::from_slice(alloc, b"line ")?;
-    put_decimal(&mut line, u64::from(number))?;
+    put_fault_at(line, at, b"limit ", quantity_name(which))
+}
+
+/// Appends what is wrong with the line of this number, and what is named by that.
+pub(crate) fn put_fault_at(
+    line: &mut Vec<u8>,
+    at: u32,
+    wrong: &[u8],
+    name: &[u8],
+) -> Result<(), AllocError>
+    ensures { OnOk result (line.new.items
+        ≡ line.old.items ++ codes "line " ++ decimal at ++ codes ": " ++ wrong.now ++ name.now ++ codes "\n") }
+{
+    line.extend_from_slice(b"line ")?;
+    put_decimal(line, u64::from(at))?;
     line.extend_from_slice(b": ")?;
-    Ok(line)
+    put_words(line, wrong, name)
 }
 
-pub(crate) fn text_line(alloc: Global, number: u32) -> Result<Vec<u8>, AllocError>
-    ensures { IfOk result (λ line. line.items
-        ≡ codes "line " ++ decimal number ++ codes ": " ++ codes "text\n") }
+fn put_no_writer(line: &mut Vec<u8>, name: Name) -> Result<(), AllocError>
+    ensures { OnOk result (line.new.items
+        ≡ line.old.items ++ codes "no writer of " ++ name ++ codes "\n") }
 {
-    let mut line = at_line(alloc, number)?;
-    line.extend_from_slice(b"text\n")?;
-    Ok(line)
+    put_words(line, b"no writer of ", name.bytes())
 }
 
-pub(crate) fn limit_line(alloc: Global, number: u32, which: Quantity) -> Result<Vec<u8>, AllocError>
-    ensures { IfOk result (λ line. line.items ≡ limit_line number which) }
+// What is wrong and a name, to the end of the line.
+fn put_words(line: &mut Vec<u8>, wrong: &[u8], name: &[u8]) -> Result<(), AllocError>
+    ensures { OnOk result (line.new.items ≡ line.old.items ++ wrong.now ++ name.now ++ codes "\n") }
 {
-    let mut line = at_line(alloc, number)?;
-    line.extend_from_slice(b"limit ")?;
-    line.extend_from_slice(quantity_name(which))?;
-    line.extend_from_slice(b"\n")?;
-    Ok(line)
+    line.extend_from_slice(wrong)?;
+    line.extend_from_slice(name)?;
+    line.extend_from_slice(b"\n")
 }
 
-fn names_line(alloc: Global, number: u32, kind: NameKind, name: Name) -> Result<Vec<u8>, AllocError>
-    ensures { IfOk result (λ line. line.items ≡ names_line number kind name) }
+fn put_cycle(line: &mut Vec<u8>, names: &[Name]) -> Result<(), AllocError>
+    ensures { OnOk result (line.new.items ≡ line.old.items ++ cycle_line names.now) }
 {
-    let mut line = at_line(alloc, number)?;
-    line.extend_from_slice(kind_words(kind))?;
-    line.extend_from_slice(name.bytes())?;
-    line.extend_from_slice(b"\n")?;
-    Ok(line)
-}
-
-fn no_writer_line(alloc: Global, name: Name) -> Result<Vec<u8>, AllocError>
-    ensures { IfOk result (λ line. line.items ≡ codes "no writer of " ++ name ++ codes "\n") }
-{
-    let mut line = Vec::from_slice(alloc, b"no writer of ")?;
-    line.extend_from_slice(name.bytes())?;
-    line.extend_from_slice(b"\n")?;
-    Ok(line)
-}
-
-fn cycle_line(alloc: Global, names: &[Name]) -> Result<Vec<u8>, AllocError>
-    ensures { IfOk result (λ line. line.items ≡ cycle_line names.now) }
-{
-    let mut line = Vec::from_slice(alloc, b"cycle")?;
+    line.extend_from_slice(b"cycle")?;
     for name in names {
-        put_name(&mut line, *name)?;
+        put_name(line, *name)?;
     }
-    line.extend_from_slice(b"\n")?;
-    Ok(line)
+    line.extend_from_slice(b"\n")
 }
 
 // A space and a name.
@@ -87,8 +89,7 @@ fn put_name(line: &mut Vec<u8>, name: Name) -> Result<(), AllocError>
     ensures { OnOk result (line.new.items ≡ line.old.items ++ 32 ∷ name) }
 {
     line.push(b' ')?;
-    line.extend_from_slice(name.bytes())?;
-    Ok(())
+    line.extend_from_slice(name.bytes())
 }
 
 // What stands before the name.

@@ -83,6 +83,5 @@ fn put_line(text: &mut Vec<u8>, name: Name, words: &[u64]) -> Result<(), AllocEr
     for word in words {
         put_number(text, *word)?;
     }
-    text.extend_from_slice(b"\n")?;
-    Ok(())
+    text.extend_from_slice(b"\n")
 }

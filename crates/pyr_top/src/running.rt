@@ -144,7 +144,9 @@ fn run_text<P: Pace, R: Threads + Wait + Sync>(
     ensures refused { IfErr result (Refuses Run input.now) }
 {
     let loaded = load(alloc, input)?;
-    Ok(printed_text(rt, alloc, &loaded, pace)?)
+    let text = printed_text(rt, alloc, &loaded, pace);
+    drop(loaded);
+    Ok(text?)
 }
 
 // What a loaded bundle prints, its processors run by a team.
@@ -161,6 +163,5 @@ fn printed_text<P: Pace, R: Threads + Wait + Sync>(
     bundle.is_bundle();
     let processors = Processor::make(rt, alloc, loaded, 1)?;
     let team = run_team(rt, alloc, loaded, processors, pace)?;
-    let text = bundle_outputs(alloc, bundle, &team.outputs)?;
-    Ok(text)
+    bundle_outputs(alloc, bundle, &team.outputs)
 }

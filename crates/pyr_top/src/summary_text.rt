@@ -2,7 +2,7 @@
 ghost use Rattle.std.specs.Prelude.{◌≡◌, IfOk};
 ghost use Rattle.pyr_top.specs.SummaryText.{summary_text};
 
-use pyr_lex::put_number;
+use crate::figures::put_figure;
 use pyr_verify::Summary;
 use std::alloc::{AllocError, Global};
 
@@ -10,18 +10,13 @@ use std::alloc::{AllocError, Global};
 pub fn summary_text(alloc: Global, summary: &Summary) -> Result<Vec<u8>, AllocError>
     ensures { IfOk result (λ text. text.items ≡ summary_text summary.now) }
 {
-    let mut text = Vec::from_slice(alloc, b"tasks")?;
-    put_number(&mut text, u64::from(summary.tasks))?;
-    text.extend_from_slice(b"\nprocessors")?;
-    put_number(&mut text, u64::from(summary.processors))?;
-    text.extend_from_slice(b"\nmessages")?;
-    put_number(&mut text, summary.messages)?;
-    text.extend_from_slice(b"\nsteps")?;
-    put_number(&mut text, summary.steps)?;
-    text.extend_from_slice(b"\ntime")?;
-    put_number(&mut text, summary.time)?;
-    text.extend_from_slice(b"\nsum")?;
-    put_number(&mut text, summary.sum)?;
+    let mut text = Vec::new(alloc);
+    put_figure(&mut text, b"tasks", u64::from(summary.tasks))?;
+    put_figure(&mut text, b"\nprocessors", u64::from(summary.processors))?;
+    put_figure(&mut text, b"\nmessages", summary.messages)?;
+    put_figure(&mut text, b"\nsteps", summary.steps)?;
+    put_figure(&mut text, b"\ntime", summary.time)?;
+    put_figure(&mut text, b"\nsum", summary.sum)?;
     text.extend_from_slice(b"\n")?;
     Ok(text)
 }

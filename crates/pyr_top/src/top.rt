@@ -17,6 +17,7 @@ ghost use Rattle.pyr_top.specs.declared.command.Command.TheVariants.{Run};
 
 use crate::cluster_report::cluster_report;
 use crate::command::read_command;
+use crate::figures::put_figure;
 use crate::load_messages::load_line;
 use crate::messages::fault_line;
 use crate::outputs_text::outputs_text;
@@ -27,7 +28,6 @@ use pyr_compile::{compile, plan};
 use pyr_dsc::cluster;
 use pyr_gantt::report;
 use pyr_graphtext::{Program, print_program, read_program, sequential};
-use pyr_lex::put_number;
 use pyr_loader::load;
 use pyr_make::make;
 use pyr_num::Limits;
@@ -196,9 +196,18 @@ fn sequential_text(alloc: Global, input: &[u8]) -> Result<Vec<u8>, Refusal>
     ensures refused { IfErr result (Refuses Command.Seq input.now) }
 {
     let program = read_program(alloc, input)?;
-    let outputs = sequential(alloc, &program, 0)?;
+    let text = printed_text(alloc, &program);
+    drop(program);
+    Ok(text?)
+}
+
+// What the tasks of a program print, run one by one.
+fn printed_text(alloc: Global, program: &Program) -> Result<Vec<u8>, AllocError>
+    ensures { IfOk result (λ text. IsPrinted program.now text.items) }
+{
+    let outputs = sequential(alloc, program, 0)?;
     let _order = program.graph().topological();
-    Ok(outputs_text(alloc, &program, &outputs)?)
+    outputs_text(alloc, program, &outputs)
 }
 
 // The steps in which the tasks of a graph text are clustered.
@@ -208,8 +217,17 @@ fn cluster_text(alloc: Global, input: &[u8]) -> Result<Vec<u8>, Refusal>
     ensures refused { IfErr result (Refuses Command.Cluster input.now) }
 {
     let program = read_program(alloc, input)?;
+    let text = steps_text(alloc, &program);
+    drop(program);
+    Ok(text?)
+}
+
+// The steps in which the tasks of a program are clustered.
+fn steps_text(alloc: Global, program: &Program) -> Result<Vec<u8>, AllocError>
+    ensures { IfOk result (λ text. IsClusterReport program.now text.items) }
+{
     let clustering = cluster(alloc, program.graph())?;
-    Ok(cluster_report(alloc, &program, &clustering)?)
+    cluster_report(alloc, program, &clustering)
 }
 
 // The text of the bundle that a graph text is compiled to, for so many processors.
@@ -222,7 +240,9 @@ fn compiled_text(alloc: Global, processors: u32, input: &[u8]) -> Result<Vec<u8>
     ensures refused { IfErr result (Refuses (Command.Compile processors) input.now) }
 {
     let program = read_program(alloc, input)?;
-    Ok(bundle_text(alloc, processors, &program)?)
+    let text = bundle_text(alloc, processors, &program);
+    drop(program);
+    Ok(text?)
 }
 
 // The text of the bundle that a program is compiled to, for so many processors.
@@ -247,7 +267,9 @@ fn gantt_text(alloc: Global, processors: u32, input: &[u8]) -> Result<Vec<u8>, R
     ensures refused { IfErr result (Refuses (Command.Gantt processors) input.now) }
 {
     let program = read_program(alloc, input)?;
-    Ok(plan_text(alloc, processors, &program)?)
+    let text = plan_text(alloc, processors, &program);
+    drop(program);
+    Ok(text?)
 }
 
 // When and where the tasks of a program run, on so many processors.
@@ -257,8 +279,7 @@ fn plan_text(alloc: Global, processors: u32, program: &Program) -> Result<Vec<u8
     ensures { IfOk result (λ text. IsGanttReport processors program.now text.items) }
 {
     let planned = plan(alloc, program.graph(), processors)?;
-    let text = report(alloc, program, &planned.placement, &planned.plan)?;
-    Ok(text)
+    report(alloc, program, &planned.placement, &planned.plan)
 }
 
 // The report on a bundle text that the loader accepts.
@@ -269,15 +290,17 @@ fn checked_text(alloc: Global, input: &[u8]) -> Result<Vec<u8>, Refusal>
     ensures refused { IfErr result (Refuses Command.Check input.now) }
 {
     let loaded = load(alloc, input)?;
-    Ok(check_report(alloc, loaded.steps())?)
+    let text = check_report(alloc, loaded.steps());
+    drop(loaded);
+    Ok(text?)
 }
 
 // The report on an accepted bundle with complete runs of so many steps.
 fn check_report(alloc: Global, steps: u64) -> Result<Vec<u8>, AllocError>
     ensures { IfOk result (λ text. text.items ≡ check_report steps) }
 {
-    let mut text = Vec::from_slice(alloc, b"accepted\nsteps")?;
-    put_number(&mut text, steps)?;
+    let mut text = Vec::new(alloc);
+    put_figure(&mut text, b"accepted\nsteps", steps)?;
     text.extend_from_slice(b"\n")?;
     Ok(text)
 }
@@ -290,7 +313,9 @@ fn made_text(alloc: Global, tasks: u32) -> Result<Vec<u8>, Refusal>
     ensures refused { IfErr result (λ refusal. refusal ≡ Refusal.Memory) }
 {
     let program = make(alloc, tasks)?;
-    Ok(print_program(alloc, &program)?)
+    let text = print_program(alloc, &program);
+    drop(program);
+    Ok(text?)
 }
 
 // The figures of the generated graph of so many tasks, compiled for so many processors.

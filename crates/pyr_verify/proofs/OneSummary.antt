@@ -1,10 +1,9 @@
 -- For a number of tasks and of processors there is one summary.
-use Rattle.std.proofs.Common.{◌≡◌, ℕ, List, [], ◌∷◌, map, unwrap_or, Option, refl, sym, ap, ◌∙◌}
+use Rattle.std.proofs.Common.{◌≡◌, ℕ, List, [], map, sym, ap, ◌∙◌}
 use Rattle.pyr_seq.specs.Sequential.{HasOneWriter, outputs_of}
 use Rattle.pyr_seq.proofs.SequentialLemmas.{outputs-same}
 use Rattle.pyr_graph.specs.System.{datum_numbers, task_numbers}
 use Rattle.pyr_graphtext.specs.Program.{ProgramParts, tasks_of}
-use Rattle.pyr_graphtext.specs.Sequential.{IsOrder}
 use Rattle.pyr_gantt.specs.Gantt.{time_of}
 use Rattle.pyr_make.specs.Layered.{layered_program}
 use Rattle.pyr_make.proofs.SystemLemmas.{writes_own}

@@ -51,33 +51,34 @@ is_loaded_plan p processors g placement plan b found graph planned_of emission m
     planned : IsPlanned p.graph processors placement plan
     planned = subst (λ (s : System). IsPlanned s processors placement plan) graph planned_of
 
-module _ (tasks processors : ℕ) (p : ProgramParts) (found : LoadedPlan) (program : p ≡ layered_program tasks) (loaded : IsLoadedPlan p processors found) where
-  of_made : IsLoadedPlan (layered_program tasks) processors found
-  of_made = subst (λ (q : ProgramParts). IsLoadedPlan q processors found) program loaded
+-- the loaded bundle of a program that is the generated one
+pub of_made : (tasks processors : ℕ) (p : ProgramParts) (found : LoadedPlan) → p ≡ layered_program tasks → IsLoadedPlan p processors found → IsLoadedPlan (layered_program tasks) processors found
+of_made tasks processors p found program loaded = subst (λ (q : ProgramParts). IsLoadedPlan q processors found) program loaded
 
+module _ (tasks processors : ℕ) (found : LoadedPlan) (loaded : IsLoadedPlan (layered_program tasks) processors found) where
   pub is_summary : (s : Summary) → s.tasks ≡ tasks → s.processors ≡ processors → s.messages ≡ message_count found.loaded.bundle → s.steps ≡ found.loaded.steps → s.time ≡ found.time
       → ((order : List ℕ) → IsOrderOf found.loaded.bundle 0 order → s.sum ≡ wrapping_sum (printed found.loaded.bundle 0 order)) → IsSummary tasks processors s
   is_summary s of_tasks on_processors messages steps time sum =
-      let (order, top) = of_made.safe.order 0 in
+      let (order, top) = loaded.safe.order 0 in
       record {
         of_tasks = of_tasks;
         on_processors = on_processors;
         bundle = found.loaded.bundle;
-        compiled = of_made.compiled;
+        compiled = loaded.compiled;
         messages = messages;
-        steps = steps ∙ of_made.steps;
-        time = time ∙ of_made.time;
+        steps = steps ∙ loaded.steps;
+        time = time ∙ loaded.time;
         order = order;
-        ordered = (of_made.means.orders 0 order).1 top;
-        sum = sum order top ∙ ap wrapping_sum (printed_is (layered_program tasks) found.loaded.bundle order of_made.means of_made.compiled.emission.prints);
+        ordered = (loaded.means.orders 0 order).1 top;
+        sum = sum order top ∙ ap wrapping_sum (printed_is (layered_program tasks) found.loaded.bundle order loaded.means loaded.compiled.emission.prints);
       }
 
   pub is_verified : (s : Summary) → s.steps ≡ found.loaded.steps → IsVerified tasks processors s
   is_verified s steps = record {
     loaded = found.loaded;
-    text = of_made.text;
-    compiled = of_made.compiled;
+    text = loaded.text;
+    compiled = loaded.compiled;
     steps = steps;
-    safe = of_made.safe;
-    means = of_made.means;
+    safe = loaded.safe;
+    means = loaded.means;
   }

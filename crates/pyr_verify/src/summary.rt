@@ -1,7 +1,7 @@
 // The summary.
 
 /// What came of a generated graph that was compiled and run.
-#[derive(Clone, Copy, Debug, PartialEq, Eq, Hash)]
+#[derive(Clone, Copy, Debug, PartialEq, Eq)]
 pub struct Summary {
     /// The number of tasks.
     pub tasks: u32,

@@ -1,12 +1,15 @@
 // The whole way of a generated graph.
 
-ghost use Rattle.std.specs.Prelude.{◌≤◌, IfOk};
+ghost use Rattle.std.specs.Prelude.{◌≡◌, ◌≤◌, IfOk};
+ghost use Rattle.pyr_make.specs.Layered.{layered_program};
 ghost use Rattle.pyr_verify.specs.Summary.{IsSummary, IsVerified};
+ghost use Rattle.pyr_verify.specs.LoadedPlan.{IsLoadedPlan};
 
 use crate::Summary;
 use crate::counting::message_count;
-use crate::loading::load_plan;
+use crate::loading::{LoadedPlan, load_plan};
 use crate::running::printed_sum;
+use pyr_graphtext::Program;
 use pyr_make::make;
 use pyr_num::Limits;
 use std::alloc::{AllocError, Global};
@@ -31,7 +34,37 @@ pub fn verify_make(alloc: Global, tasks: u32, processors: u32) -> Result<Summary
     ensures verified { IfOk result (IsVerified tasks processors) }
 {
     let program = make(alloc, tasks)?;
-    let found = load_plan(alloc, &program, processors)?;
+    summary_of_made(alloc, &program, tasks, processors)
+}
+
+// The summary of the generated program of so many tasks, which is compiled and loaded here.
+fn summary_of_made(
+    alloc: Global,
+    program: &Program,
+    tasks: u32,
+    processors: u32,
+) -> Result<Summary, AllocError>
+    requires made { program.now ≡ layered_program tasks }
+    requires some { 1 ≤ processors }
+    requires few { processors ≤ Limits.PROCESSORS }
+    ensures summary { IfOk result (IsSummary tasks processors) }
+    ensures verified { IfOk result (IsVerified tasks processors) }
+{
+    let found = load_plan(alloc, program, processors)?;
+    summary_of(alloc, &found, tasks, processors)
+}
+
+// The summary of the bundle of the generated program of so many tasks, which is run here.
+fn summary_of(
+    alloc: Global,
+    found: &LoadedPlan,
+    tasks: u32,
+    processors: u32,
+) -> Result<Summary, AllocError>
+    requires { IsLoadedPlan (layered_program tasks) processors found.now }
+    ensures summary { IfOk result (IsSummary tasks processors) }
+    ensures verified { IfOk result (IsVerified tasks processors) }
+{
     let sum = printed_sum(alloc, &found.loaded)?;
     Ok(Summary {
         tasks,

@@ -92,7 +92,7 @@ fn parcels_and_outputs_move_to_another_thread(rt: HostRuntime) -> Result<(), Fai
         tag: DatumId(3),
         words: Words::from_slice(rt.alloc(), &[10])?,
     });
-    assert!(rt; parcel.tag == DatumId(3) && TaskId(0) < TaskId(1) && ProcId(2) != ProcId(1));
+    assert!(rt; parcel.tag == DatumId(3) && TaskId(0) != TaskId(1) && ProcId(2) != ProcId(1));
     assert_eq!(rt; parcel.words.as_slice(), [10].as_slice());
     let mut lists = sqlite_items::Items::new(rt.alloc());
     lists.push(parcel.words)?;

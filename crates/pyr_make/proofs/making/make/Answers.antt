@@ -4,11 +4,11 @@ use Rattle.pyr_make.proofs.making.make.Goals as goal
 
 pub new-requires : goal.new-requires
 new-requires c =
-    parts_program c.args.tasks c.in_ok-graph.graph c.in_ok-datums.datums.items c.in_ok-names.names.items c.in_ok-bodies.bodies.items
-    c.in_ok-graph.ensures c.in_ok-datums.ensures c.in_ok-names.ensures c.in_ok-bodies.ensures c.requires.some c.requires.few
+    parts_program c.args.tasks c.in_ok-graph.graph c.in_ok-datums.datums.items c.in_ok-datums.names.items c.in_ok-bodies.bodies.items
+    c.in_ok-graph.ensures c.in_ok-datums.ensures.datums c.in_ok-datums.ensures.tasks c.in_ok-bodies.ensures c.requires.some c.requires.few
 
 pub returns : goal.returns
 returns c =
     c.new.ensures
-    ∙ parts-program c.args.tasks c.in_ok-graph.graph c.in_ok-datums.datums.items c.in_ok-names.names.items c.in_ok-bodies.bodies.items
-    c.in_ok-graph.ensures c.in_ok-datums.ensures c.in_ok-names.ensures c.in_ok-bodies.ensures
+    ∙ parts-program c.args.tasks c.in_ok-graph.graph c.in_ok-datums.datums.items c.in_ok-datums.names.items c.in_ok-bodies.bodies.items
+    c.in_ok-graph.ensures c.in_ok-datums.ensures.datums c.in_ok-datums.ensures.tasks c.in_ok-bodies.ensures

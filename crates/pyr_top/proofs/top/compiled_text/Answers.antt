@@ -3,4 +3,4 @@ use Rattle.pyr_top.proofs.top.compiled_text.Goals as goal
 
 pub returns-clause-safe : goal.returns-clause-safe
 returns-clause-safe c =
-    compiles_safely c.args.input.now c.in_ok-bundle_text.field-0.items c.in_ok-program.program c.in_ok-program.ensures.program c.in_ok-bundle_text.ensures.safe
+    compiles_safely c.args.input.now c.in_ok-text.field-0.items c.in_ok-program.program c.in_ok-program.ensures.program c.in_ok-text.ensures.safe

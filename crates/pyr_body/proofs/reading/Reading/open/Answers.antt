@@ -1,12 +1,13 @@
 use Rattle.std.proofs.Common.{sym, ap, ◌∙◌}
 use Rattle.pyr_body.specs.Taking.{after_for}
+use Rattle.pyr_body.specs.Fitting.{for_fits}
 use Rattle.pyr_body.proofs.TakingLemmas.{for_taken}
 use Rattle.pyr_body.proofs.reading.Reading.open.Goals as goal
 
 pub invariant_of-self : goal.invariant_of-self
-invariant_of-self c = (for_taken _ _ _ _ c.self.inside.outer c.self.inside.current _ c.self.invariant c.len.result c.args.name c.in_ok-local.local c.args.count _ _ _ _ _ c.in_ok-fit_nodes.ensures c.len.ensures c.in_ok-fit_loop.ensures c.as_slice.ensures c.in_ok-fit_local.ensures c.in_ok-local.ensures c.replace-before.ensures.value (c.replace-before.ensures.after ∙ c.new.ensures) c.in_ok-push.ensures.ok).kept
+invariant_of-self c = (for_taken _ _ _ _ c.self.inside.outer c.self.inside.current _ c.self.invariant c.args.name c.in_ok-local.local c.args.count _ _ _ _ (ap (λ s. for_fits s c.args.name c.args.count) c.self.view_is ∙ c.in_ok-fit_for.ensures) c.in_ok-local.ensures c.replace-before.ensures.value (c.replace-before.ensures.after ∙ c.new.ensures) c.in_ok-push.ensures.ok).kept
 
 pub returns : goal.returns
 returns c =
     ap (λ s. after_for s c.args.name c.args.count) (sym c.self.view_is)
-    ∙ (for_taken _ _ _ _ c.self.inside.outer c.self.inside.current _ c.self.invariant c.len.result c.args.name c.in_ok-local.local c.args.count _ _ _ _ _ c.in_ok-fit_nodes.ensures c.len.ensures c.in_ok-fit_loop.ensures c.as_slice.ensures c.in_ok-fit_local.ensures c.in_ok-local.ensures c.replace-before.ensures.value (c.replace-before.ensures.after ∙ c.new.ensures) c.in_ok-push.ensures.ok).is
+    ∙ (for_taken _ _ _ _ c.self.inside.outer c.self.inside.current _ c.self.invariant c.args.name c.in_ok-local.local c.args.count _ _ _ _ (ap (λ s. for_fits s c.args.name c.args.count) c.self.view_is ∙ c.in_ok-fit_for.ensures) c.in_ok-local.ensures c.replace-before.ensures.value (c.replace-before.ensures.after ∙ c.new.ensures) c.in_ok-push.ensures.ok).is

@@ -1,6 +1,6 @@
 use Rattle.std.proofs.Common.{length}
 use Rattle.pyr_bundletext.proofs.ReadingLemmas.{HasRead}
-use Rattle.pyr_bundletext.proofs.reading.read_bundle.Given as goal
+use Rattle.pyr_bundletext.proofs.reading.read_lines.Given as goal
 
 -- the lines before what is left were read
 abbrev pub invariant-loop-alloc : goal.invariant-loop-alloc

@@ -1,6 +1,6 @@
 use Rattle.std.proofs.Common.{length}
 use Rattle.pyr_graphtext.proofs.ReadingLemmas.{HasRead}
-use Rattle.pyr_graphtext.proofs.reading.read_lines.Given as goal
+use Rattle.pyr_graphtext.proofs.reading.take_lines.Given as goal
 
 -- the lines before what is left were read
 abbrev pub invariant-loop-rest : goal.invariant-loop-rest

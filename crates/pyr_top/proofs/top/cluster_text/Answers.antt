@@ -1,6 +1,0 @@
-use Rattle.std.proofs.Common.{rules}
-use Rattle.pyr_top.proofs.ClusterLemmas.{run_in}
-use Rattle.pyr_top.proofs.top.cluster_text.Goals as goal
-
-pub cluster_report-requires : goal.cluster_report-requires
-cluster_report-requires c = run_in c.in_ok-program.program.graph c.in_ok-clustering.clustering (search rules)
