@@ -11,7 +11,6 @@ mod parcels;
 mod proc;
 mod reading;
 mod stash;
-mod team;
 mod texts;
 mod verify;
 mod wire;

@@ -1,5 +1,5 @@
 use crate::tests::reading::loaded_of;
-use crate::tests::texts::{CROSSING, DIAMOND, LEFT, MUTUAL, ROOMY, SWAPPED, UNMADE, with_lines};
+use crate::tests::texts::{CROSSING, DIAMOND, LEFT, MUTUAL, ROOMY, SWAPPED, UNMADE};
 use pyr_loader::{
     LoadFault, Reason, Stop, loaded_bundles_are_safe, one_answer_is_told, reasons_are_true,
 };
@@ -125,57 +125,6 @@ fn tells_what_is_left(rt: HostRuntime) {
     ] {
         assert!(rt; left_of(rt.alloc(), text) == Some(left));
     }
-}
-
-// The line of the text that is none.
-fn bad_line_of(alloc: Global, text: &[u8]) -> Option<u32> {
-    match loaded_of(alloc, text) {
-        Err(LoadFault::BadText { line }) => Some(line),
-        Ok(_) | Err(_) => None,
-    }
-}
-
-#[test]
-fn tells_faults_of_texts(rt: HostRuntime) {
-    for (text, line) in [
-        (b"".as_slice(), 1),
-        (b"pyrros 1\n", 2),
-        (b"pyrros 1\np", 2),
-        (b"pyrros 1\nprocessors 02\n", 2),
-        (b"pyrros 1\nprocessors 1\nprocessor 0\nstop\n\n", 5),
-    ] {
-        assert_eq!(rt; bad_line_of(rt.alloc(), text), Some(line));
-    }
-}
-
-// Whether a line of the text passes a limit.
-fn passes_limit(alloc: Global, text: &[u8], number: u32) -> bool {
-    match loaded_of(alloc, text) {
-        Err(LoadFault::Limit { line, .. }) => line == number,
-        Ok(_) | Err(_) => false,
-    }
-}
-
-#[test]
-fn tells_a_limit(rt: HostRuntime) {
-    assert!(rt; passes_limit(rt.alloc(), b"pyrros 1\nprocessors 0\n", 2));
-}
-
-// The law that the bundle breaks, with its place, where it has this text with another line.
-fn law_of(alloc: Global, text: &[u8], line: u32, bytes: &[u8]) -> Option<(u32, u64, u64)> {
-    let edited = with_lines(alloc, text, line, line, bytes).ok()?;
-    match loaded_of(alloc, &edited) {
-        Err(LoadFault::Law { number, a, b }) => Some((number, a, b)),
-        Ok(_) | Err(_) => None,
-    }
-}
-
-#[test]
-fn tells_broken_laws(rt: HostRuntime) {
-    let large = law_of(rt.alloc(), CROSSING, 15, b"channel 0 1 3\n");
-    assert!(rt; large == Some((11, 0, 0)));
-    let twice = law_of(rt.alloc(), LEFT, 13, b"processor 1\nexec 0\n");
-    assert!(rt; twice == Some((7, 0, 0)));
 }
 
 // The line for two of the faults.

@@ -1,9 +1,9 @@
-use crate::tests::reading::{bundle_of, loaded_of};
+use crate::tests::reading::bundle_of;
 use crate::tests::texts::{CROSSING, DIAMOND, LEFT, MUTUAL, ROOMY, SWAPPED, UNMADE};
 use pyr_bundle::Bundle;
-use pyr_machine::{Loaded, State, Tags};
+use pyr_machine::{State, Tags};
 use pyr_net::{Action, Net, run_to_end};
-use pyr_num::{DatumId, Outputs, ProcId};
+use pyr_num::{DatumId, ProcId};
 use std::alloc::{AllocError, Global};
 
 // Makes a step where one can be made, of the smallest processor or of the greatest.
@@ -216,33 +216,4 @@ fn is_ten_in_both_orders(alloc: Global, text: &[u8]) -> bool {
 #[test]
 fn words_are_the_same_in_both_orders(rt: HostRuntime) {
     assert!(rt; is_ten_in_both_orders(rt.alloc(), DIAMOND));
-}
-
-// What a loaded bundle prints in frame 0.
-fn outputs_of(alloc: Global, loaded: &Loaded) -> Result<Outputs, AllocError> {
-    loaded.is_good();
-    let mut state = State::new(alloc, loaded.bundle(), 0)?;
-    state.finish();
-    state.outputs(alloc)
-}
-
-// The first word of it.
-fn first_output_of(alloc: Global, loaded: &Loaded) -> Option<u64> {
-    let outputs = outputs_of(alloc, loaded).ok()?;
-    outputs.lists.get(0)?.get(0).copied()
-}
-
-// The same of the bundle that has this text.
-fn printed(alloc: Global, text: &[u8]) -> Option<u64> {
-    match loaded_of(alloc, text) {
-        Ok(loaded) => first_output_of(alloc, &loaded),
-        Err(_) => None,
-    }
-}
-
-#[test]
-fn prints_what_the_tasks_make_one_by_one(rt: HostRuntime) {
-    assert_eq!(rt; printed(rt.alloc(), DIAMOND), Some(10));
-    // a difference wraps
-    assert_eq!(rt; printed(rt.alloc(), SWAPPED), Some(u64::MAX));
 }
