@@ -1,10 +1,11 @@
 -- What holds of values that are the code of a body.
-use Rattle.std.proofs.Common.{◌≡◌, ℕ, ◌≤◌, List, map, sym, subst, ap, ◌∙◌}
+use Rattle.std.proofs.Common.{◌≡◌, ℕ, ◌+◌, ◌<◌, ◌≤◌, ◌++◌, ◌∷◌, List, map, drop, get_or, length, append_assoc, sym, subst, ap, ◌∙◌}
+use Rattle.std.proofs.lemmas.List.{drop_more}
 use Rattle.pyr_num.specs.Cells.{CellLists}
 use Rattle.pyr_body.specs.declared.stmt.Stmt.{Stmt as StmtValue}
 use Rattle.pyr_body.specs.Parts.{BodyParts}
 use Rattle.pyr_body.specs.Body.{IsBody}
-use Rattle.pyr_body.specs.Seen.{statements_of}
+use Rattle.pyr_body.specs.Seen.{stmt_of, statements_of}
 use Rattle.pyr_body.specs.Size.{statements_nodes, statements_work}
 use Rattle.pyr_body.specs.Meaning.{body_meaning}
 use Rattle.pyr_code.specs.declared.op.Op.{Op as OpValue}
@@ -17,7 +18,8 @@ use Rattle.pyr_code.specs.Meaning.{outputs_of}
 use Rattle.pyr_code.specs.Running.{executed}
 use Rattle.pyr_code.specs.WellFormed.{IsWellFormed}
 use Rattle.pyr_code.specs.Verified.{ShapedCode, IsVerified}
-use Rattle.pyr_bodygen.specs.Generated.{statements_ops, generated}
+use Rattle.pyr_code.specs.Tree.{Op}
+use Rattle.pyr_bodygen.specs.Generated.{stmt_ops, statements_ops, generated}
 use Rattle.pyr_bodygen.specs.Agreement.{shape_of, IsCodeOf, SameMeaning}
 use Rattle.pyr_bodygen.proofs.MeaningLemmas.{same_outputs}
 use Rattle.pyr_bodygen.proofs.SizeLemmas.{same_nodes, same_work, within_limits}
@@ -57,3 +59,15 @@ module _ (body : BodyParts) (code : ShapedCode) where
   -- its stack stays low
   pub greatest_height-low : IsBody body → IsCodeOf body code → greatest_height (code_of code.ops) 0 ≤ MAX_HEIGHT
   greatest_height-low body_is is = subst (λ x. greatest_height x 0 ≤ MAX_HEIGHT) (sym is.ops) (low_height body body_is)
+
+-- the ops of one statement more stand before those of the statements that are left
+pub statement_more : (ss : List StmtValue) (i : ℕ) (statement : StmtValue) (old new all : List Op) → i < length ss → statement ≡ get_or ss i statement
+    → old ++ statements_ops (statements_of (drop i ss)) ≡ all → new ≡ old ++ stmt_ops (stmt_of statement)
+    → new ++ statements_ops (statements_of (drop (i + 1) ss)) ≡ all
+statement_more ss i statement old new all below is left pushed =
+    let rest = statements_ops (statements_of (drop (i + 1) ss)) in
+    ap (λ (ops : List Op). ops ++ rest) pushed
+    ∙ append_assoc old (stmt_ops (stmt_of statement)) rest
+    ∙ ap (λ (s : StmtValue). old ++ (stmt_ops (stmt_of s) ++ rest)) is
+    ∙ ap (λ (l : List StmtValue). old ++ statements_ops (statements_of l)) (sym (drop_more ss i statement below))
+    ∙ left

@@ -9,3 +9,4 @@ pub mod TrafficLemmas
 pub mod EndLemmas
 pub mod FrameLemmas
 pub mod Linked
+pub mod MovingLemmas

@@ -1,5 +1,5 @@
 -- Making a processor.
-use Rattle.std.proofs.Common.{◌≡◌, ℕ, zero, suc, ◌+◌, ◌<◌, ◌≤◌, true, false, List, [], ◌∷◌, ◌++◌, length, drop, add-one, get_or, set, Option, Some, None, slice_get, max, ◌⊎◌, inl, inr, refl, sym, ◌∙◌, ap, subst, arith}
+use Rattle.std.proofs.Common.{All, ◌≡◌, ℕ, zero, suc, ◌+◌, ◌<◌, ◌≤◌, true, false, List, [], ◌∷◌, ◌++◌, length, drop, add-one, get_or, set, Option, Some, None, slice_get, max, ◌⊎◌, inl, inr, refl, sym, ◌∙◌, ap, subst, arith}
 use Rattle.std.proofs.lemmas.Option.{slice_get-get_or, slice_get_within}
 use Rattle.pyr_bundle.specs.declared.instr.Instr.{Instr}
 use Rattle.pyr_bundle.specs.declared.instr.Instr.TheVariants.{Exec, Send}
@@ -21,10 +21,11 @@ use Rattle.pyr_machine.specs.Machine.{new_local}
 use Rattle.pyr_ends.specs.declared.ends.Ends.{Ends}
 use Rattle.pyr_ends.specs.Wired.{AreEndsOf}
 use Rattle.pyr_proc.specs.Standing.{Standing}
-use Rattle.pyr_proc.specs.Seated.{Seated, seated, HasPassedOn, IsFresh, AreFresh, IsAtRest}
+use Rattle.pyr_proc.specs.Seated.{Seated, seated, IsOf, HasPassedOn, IsFresh, AreFresh, IsAtRest}
 use Rattle.pyr_proc.specs.Making.{all_traffic, AreSeated}
 use Rattle.pyr_proc.proofs.FittedLemmas.{entry-set}
 use Rattle.std.proofs.lemmas.List.{length-set, length-map, get_or_default, length-append, get_or-set_same}
+use Rattle.std.proofs.lemmas.List.Elements.{All-nil, All-from_get_or}
 use Rattle.std.proofs.Math.ListN.{get_or-map}
 use Rattle.pyr_num.specs.declared.ids.DatumId.{DatumId}
 use Rattle.pyr_num.specs.declared.ids.ProcId.{ProcId}
@@ -247,3 +248,9 @@ seated_all b n number all rest seats c e h = record {
   count = let k = h.count in let t = h.total in omega arith;
   each = h.each;
 }
+
+-- fresh processors are of their bundle
+pub all_fresh : (b : Parts) (n : ℕ) (ss : List Seated) → AreFresh b n ss → All (IsOf b) ss
+all_fresh b n [] fresh = All-nil (IsOf b)
+all_fresh b n (x ∷ ss) fresh =
+    All-from_get_or (IsOf b) (x ∷ ss) x (λ i l. (fresh.each i (get_or (x ∷ ss) i x) (slice_get-get_or (x ∷ ss) i x l)).bundle)

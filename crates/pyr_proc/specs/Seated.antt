@@ -37,6 +37,10 @@ seated s ran =
       tails = s.tails;
     }
 
+-- it was made for this bundle
+abbrev pub IsOf : Parts → Seated → Type 0
+IsOf b s = s.bundle ≡ b
+
 -- through its ends went exactly the traffic of the frames that it has run
 pub record HasPassedOn (s : Seated) : Type 0 where
   pub heads : (q : ℕ) → q < processor_count s.bundle

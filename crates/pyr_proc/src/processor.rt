@@ -31,10 +31,10 @@ impl<'a> Model for Processor<'a> {
 }
 
 impl<'a> Processor<'a> {
-    ghost use Rattle.std.specs.Prelude.{◌≡◌, ◌<◌, is_some, IfOk, IfSome};
+    ghost use Rattle.std.specs.Prelude.{◌≡◌, ◌<◌, ◌≤◌, [], All, is_some, IfOk, IfSome, vec_len, vec_capacity};
     ghost use Rattle.pyr_machine.specs.Machine.{holds};
     ghost use Rattle.pyr_machine.specs.Parcels.{parcel_tag, words_in};
-    ghost use Rattle.pyr_proc.specs.Seated.{AreFresh, HasRun};
+    ghost use Rattle.pyr_proc.specs.Seated.{IsOf, AreFresh, HasRun};
 
     /// One processor for each number of the bundle, by rising number, each at its start. There is a
     /// wire for each channel, with the channel's capacity, made for the traffic between its two
@@ -50,11 +50,8 @@ impl<'a> Processor<'a> {
         ensures { IfOk result (λ processors. AreFresh loaded.now.bundle frames processors.items) }
     {
         let seats = seats(rt, alloc, loaded, frames)?;
-        let mut processors = Vec::with_capacity(alloc, seats.len())?;
-        for seat in seats {
-            processors.push_reserved(Processor { loaded, seat });
-        }
-        Ok(processors)
+        let processors = Vec::with_capacity(alloc, seats.len())?;
+        Ok(Processor::all_seated(loaded, seats, processors))
     }
 
     /// Runs a frame. It may wait for the other processors. When it returns, it has sent and
@@ -90,5 +87,23 @@ impl<'a> Processor<'a> {
         ensures { result ≡ seat }
     {
         Processor { loaded, seat }
+    }
+
+    /// The processors with the bundle that their seats were made for, put into a vector that has room
+    /// for them. It takes no memory.
+    pub fn all_seated(
+        loaded: &'a Loaded,
+        seats: Vec<Seat>,
+        mut processors: Vec<Processor<'a>>,
+    ) -> Vec<Processor<'a>>
+        requires bundle { All (IsOf loaded.now.bundle) seats.items }
+        requires room { vec_len seats ≤ vec_capacity processors }
+        requires empty { processors.items ≡ [] }
+        ensures { result.items ≡ seats.items }
+    {
+        for seat in seats {
+            processors.push_reserved(Processor::seated(loaded, seat));
+        }
+        processors
     }
 }

@@ -9,9 +9,6 @@ use Rattle.std.proofs.lemmas.List.Elements.{AllZip-push}
 pub fewer : {X : Type 0} (n cap : ℕ) (x : X) (xs ys : List X) → ys ≡ x ∷ xs → n + length ys ≤ cap → n + length xs ≤ cap
 fewer n cap x xs ys e h = let l = ap length e in omega arith
 
-pub one_over : {X : Type 0} (n m cap cap' : ℕ) (x : X) (xs ys : List X) → ys ≡ x ∷ xs → n + length ys ≤ cap → m ≡ n + 1 → cap' ≡ cap → m + length xs ≤ cap'
-one_over n m cap cap' x xs ys e h a b = let l = ap length e in omega arith
-
 pub started : {X Y : Type 0} (f : X → Y) (hs new : List X) (h : X) (s : Y) (rest left all : List Y) → map f hs ++ rest ≡ all → rest ≡ s ∷ left → f h ≡ s → new ≡ hs ++ h ∷ [] → map f new ++ left ≡ all
 started f hs new h s rest left all e next is grown =
     ap (λ l. map f l ++ left) grown
@@ -37,11 +34,6 @@ goes_on R f all rest left done new h z g next r grown = record {
 
 pub goes_all : {X Y : Type 0} (R : Y → Y → Type 0) (f : X → Y) (all : List Y) (done : List Y) → Goes R f all [] done → AllZip R all done
 goes_all R f all done g = subst (λ l. AllZip R l done) (sym (append-nil g.begin) ∙ g.whole) g.related
-
--- one element goes over as it is
-pub moved : {X : Type 0} (done new : List X) (x y : X) (rest left all : List X) → done ++ rest ≡ all → rest ≡ x ∷ left → y ≡ x → new ≡ done ++ y ∷ [] → new ++ left ≡ all
-moved done new x y rest left all e next is grown =
-    ap (λ l. l ++ left) grown ∙ append_assoc done (y ∷ []) left ∙ ap (λ z. done ++ (z ∷ left)) is ∙ ap (λ l. done ++ l) (sym next) ∙ e
 
 -- what holds where the answer is yes holds of what is there then
 pub if_there : {X : Type 0} (P : X → Type 0) (b : Bool) (x : X) → (b ≡ true → P x) → IfSome (then_some b x) P

@@ -3,9 +3,9 @@ use Rattle.std.proofs.Common.{◌≡◌, ℕ, ◌<◌, List, [], ◌∷◌, ◌+
 use Rattle.std.proofs.lemmas.List.Elements.{All-nil, All-from_get_or, length_all_zip, AllZip-get_or}
 use Rattle.std.proofs.lemmas.Option.{slice_get_within, slice_get-get_or, get_or_from_slice_get}
 use Rattle.pyr_bundle.specs.Parts.{Parts}
-use Rattle.pyr_proc.specs.Seated.{Seated, AreFresh, HasRun}
+use Rattle.pyr_proc.specs.Seated.{Seated, IsOf, AreFresh, HasRun}
 use Rattle.pyr_team.specs.Team.{HasRunAs, HaveRun}
-use Rattle.pyr_team.specs.Workers.{IsOf, IsReady, AllRan}
+use Rattle.pyr_team.specs.Workers.{IsReady, AllRan}
 
 -- fresh processors are ready
 pub are_ready : (b : Parts) (ss : List Seated) → AreFresh b 1 ss → All (IsReady b) ss

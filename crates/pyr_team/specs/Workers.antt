@@ -6,10 +6,6 @@ use Rattle.pyr_bundle.specs.Parts.{Parts}
 use Rattle.pyr_proc.specs.Seated.{Seated, HasRun}
 use Rattle.pyr_team.specs.declared.workers.RunOf.{RunOf}
 
--- it was made for this bundle
-abbrev pub IsOf : Parts → Seated → Type 0
-IsOf b s = s.bundle ≡ b
-
 -- frame 0 of this bundle can be run
 pub record IsReady (b : Parts) (s : Seated) : Type 0 where
   pub bundle : s.bundle ≡ b

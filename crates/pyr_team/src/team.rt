@@ -6,7 +6,6 @@ ghost use Rattle.pyr_machine.specs.State.{state_world};
 ghost use Rattle.pyr_proc.specs.Seated.{AreFresh};
 ghost use Rattle.pyr_team.specs.Homes.{AreHomes, AreCopied};
 ghost use Rattle.pyr_team.specs.Team.{Prints, HaveRun};
-ghost use Rattle.pyr_team.specs.Workers.{IsOf};
 
 use crate::homes::homes;
 use crate::printing::{blank, outputs_of};
@@ -55,23 +54,6 @@ fn seats_of(alloc: Global, processors: Vec<Processor<'_>>) -> Result<(Seat, Vec<
     Ok((first.into_seat(), others))
 }
 
-// The processors of these seats.
-fn seated<'a>(
-    loaded: &'a Loaded,
-    seats: Vec<Seat>,
-    mut processors: Vec<Processor<'a>>,
-) -> Vec<Processor<'a>>
-    requires bundle { All (IsOf loaded.now.bundle) seats.items }
-    requires room { vec_len seats ≤ vec_capacity processors }
-    requires empty { processors.items ≡ [] }
-    ensures { result.items ≡ seats.items }
-{
-    for seat in seats {
-        processors.push_reserved(Processor::seated(loaded, seat));
-    }
-    processors
-}
-
 // Runs frame 0 of the processors, each but the first on a thread of its own. None where one of them
 // wasn't to start or couldn't be started.
 fn run_processors<'a, P: Pace, R: Threads + Wait + Sync>(
@@ -88,7 +70,7 @@ fn run_processors<'a, P: Pace, R: Threads + Wait + Sync>(
     let ran = Vec::with_capacity(alloc, processors.len())?;
     let (first, others) = seats_of(alloc, processors)?;
     match run_seats(rt, alloc, loaded, first, others, pace)? {
-        Some(seats) => Ok(Some(seated(loaded, seats, ran))),
+        Some(seats) => Ok(Some(Processor::all_seated(loaded, seats, ran))),
         None => Ok(None),
     }
 }

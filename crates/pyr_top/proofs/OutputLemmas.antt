@@ -1,6 +1,7 @@
 -- The lines of the printed data, one after another.
 use Rattle.std.proofs.Common.{◌≡◌, ℕ, ◌+◌, ◌<◌, ◌≤◌, List, [], ◌∷◌, ◌++◌, length, map, take, drop, get_or, refl, sym, ap, ◌∙◌, arith, append_assoc}
-use Rattle.std.proofs.lemmas.List.{drop_more, drop_all, append-nil}
+use Rattle.std.specs.List.{flat_map}
+use Rattle.std.proofs.lemmas.List.{drop_more, drop_all, append-nil, take_more, map_push, flat_map_more}
 use Rattle.pyr_num.specs.declared.name.Name.{Name}
 use Rattle.pyr_top.specs.OutputsText.{output_line, output_lines}
 
@@ -36,3 +37,13 @@ pub IsWritten-end : (names : List Name) (lists : List (List ℕ)) (i : ℕ) (tex
 IsWritten-end names lists i text end w =
     let none : lines_left names lists i ≡ [] = ap (λ (ls : List (List ℕ)). output_lines (drop i names) ls) (drop_all i lists (omega (arith, end))) ∙ no_values (drop i names) in
     sym (append-nil text) ∙ ap (λ (t : List ℕ). text ++ t) (sym none) ∙ w.all
+
+-- what one element more gives is written behind what those before it give
+pub written_more : {X : Type 0} (f : X → List ℕ) (start old new : List ℕ) (xs : List X) (i : ℕ) (d : X) → i < length xs → old ≡ start ++ flat_map f (take i xs) → new ≡ old ++ f (get_or xs i d) → new ≡ start ++ flat_map f (take (i + 1) xs)
+written_more f start old new xs i d below so_far put =
+    put ∙ ap (λ l. l ++ f (get_or xs i d)) so_far ∙ flat_map_more f start (take i xs) (get_or xs i d) ∙ ap (λ l. start ++ flat_map f l) (sym (take_more xs i d below))
+
+-- one name more
+pub names_more : {X : Type 0} (f : X → Name) (old new : List Name) (xs : List X) (i : ℕ) (d : X) → i < length xs → old ≡ map f (take i xs) → new ≡ old ++ f (get_or xs i d) ∷ [] → new ≡ map f (take (i + 1) xs)
+names_more f old new xs i d below so_far put =
+    put ∙ ap (λ (l : List Name). l ++ f (get_or xs i d) ∷ []) so_far ∙ sym (map_push f (take i xs) (get_or xs i d)) ∙ ap (λ l. map f l) (sym (take_more xs i d below))

@@ -34,7 +34,9 @@ pub fn verify_make(alloc: Global, tasks: u32, processors: u32) -> Result<Summary
     ensures verified { IfOk result (IsVerified tasks processors) }
 {
     let program = make(alloc, tasks)?;
-    summary_of_made(alloc, &program, tasks, processors)
+    let summary = summary_of_made(alloc, &program, tasks, processors);
+    drop(program);
+    summary
 }
 
 // The summary of the generated program of so many tasks, which is compiled and loaded here.

@@ -1,4 +1,4 @@
-use Rattle.pyr_team.proofs.JoinLemmas.{one_over, moved}
+use Rattle.pyr_proc.proofs.MovingLemmas.{one_over, moved}
 use Rattle.pyr_team.proofs.team.add_seats.Goals as goal
 
 pub loop-processor-preserved : goal.loop-processor-preserved

@@ -1,7 +1,8 @@
 use Rattle.std.proofs.Common.{true≢false, sym, ◌∙◌}
 use Rattle.pyr_proc.specs.Seated.{HasRun}
 use Rattle.pyr_team.specs.Workers.{seat_of}
-use Rattle.pyr_team.proofs.JoinLemmas.{one_over, goes_on}
+use Rattle.pyr_proc.proofs.MovingLemmas.{one_over}
+use Rattle.pyr_team.proofs.JoinLemmas.{goes_on}
 use Rattle.pyr_team.proofs.workers.join_all.Goals as goal
 use Rattle.pyr_team.proofs.workers.join_all.Goals.{then-all, else-all}
 

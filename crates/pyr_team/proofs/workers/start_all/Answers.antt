@@ -1,7 +1,8 @@
 use Rattle.std.proofs.Common.{true≢false, sym, refl}
 use Rattle.std.proofs.lemmas.List.Elements.{All-rest}
 use Rattle.pyr_team.specs.Workers.{seat_of, IsReady}
-use Rattle.pyr_team.proofs.JoinLemmas.{fewer, one_over, started}
+use Rattle.pyr_proc.proofs.MovingLemmas.{one_over}
+use Rattle.pyr_team.proofs.JoinLemmas.{fewer, started}
 use Rattle.pyr_team.proofs.workers.start_all.Goals as goal
 
 pub loop-seat-preserved-in_default : goal.loop-seat-preserved-in_default

@@ -1,7 +1,7 @@
 use Rattle.std.proofs.lemmas.List.Elements.{All-rest}
-use Rattle.pyr_team.specs.Workers.{IsOf}
-use Rattle.pyr_team.proofs.JoinLemmas.{one_over, moved}
-use Rattle.pyr_team.proofs.team.seated.Goals as goal
+use Rattle.pyr_proc.specs.Seated.{IsOf}
+use Rattle.pyr_proc.proofs.MovingLemmas.{one_over, moved}
+use Rattle.pyr_proc.proofs.processor.Processor.all_seated.Goals as goal
 
 pub loop-seat-preserved : goal.loop-seat-preserved
 loop-seat-preserved c =

@@ -1,7 +1,7 @@
 use Rattle.std.proofs.Common.{◌≡◌, ◌+◌, ◌≤◌, ◌++◌, All, vec_len, vec_capacity, length}
 use Rattle.std.specs.Vec.Iter.{into_iter_items}
-use Rattle.pyr_team.specs.Workers.{IsOf}
-use Rattle.pyr_team.proofs.team.seated.Given as goal
+use Rattle.pyr_proc.specs.Seated.{IsOf}
+use Rattle.pyr_proc.proofs.processor.Processor.all_seated.Given as goal
 
 abbrev pub invariant-loop-seat : goal.invariant-loop-seat
 invariant-loop-seat l =
