@@ -81,7 +81,7 @@ fn tells_the_parts(rt: HostRuntime) {
 }
 
 // The lines of `PAIR` that are changed, what stands there instead, and the law that is told.
-const OF_INSTRUCTIONS: [(u32, u32, &[u8], Refusal); 10] = [
+const OF_INSTRUCTIONS: &[(u32, u32, &[u8], Refusal)] = &[
     (24, 24, b"send 0 0\n", Refusal::Law(6, 0, 1)),
     (27, 27, b"exec 2\n", Refusal::Law(6, 1, 1)),
     (27, 27, b"", Refusal::Law(7, 1, 0)),
@@ -107,11 +107,11 @@ const OF_INSTRUCTIONS: [(u32, u32, &[u8], Refusal); 10] = [
 #[test]
 fn tells_broken_laws_of_instructions(rt: HostRuntime) {
     for (first, last, bytes, refusal) in OF_INSTRUCTIONS {
-        assert!(rt; refusal_with(rt.alloc(), PAIR, first, last, bytes) == Some(refusal));
+        assert!(rt; refusal_with(rt.alloc(), PAIR, *first, *last, bytes) == Some(*refusal));
     }
 }
 
-const OF_PARTS: [(u32, u32, &[u8], Refusal); 8] = [
+const OF_PARTS: &[(u32, u32, &[u8], Refusal)] = &[
     (4, 4, b"datum x 1\n", Refusal::Law(1, 1, 0)),
     (13, 13, b"reads 0 0\n", Refusal::Law(2, 1, 1)),
     (14, 14, b"writes 2\n", Refusal::Law(2, 1, 1)),
@@ -125,7 +125,7 @@ const OF_PARTS: [(u32, u32, &[u8], Refusal); 8] = [
 #[test]
 fn tells_broken_laws_of_parts(rt: HostRuntime) {
     for (first, last, bytes, refusal) in OF_PARTS {
-        assert!(rt; refusal_with(rt.alloc(), PAIR, first, last, bytes) == Some(refusal));
+        assert!(rt; refusal_with(rt.alloc(), PAIR, *first, *last, bytes) == Some(*refusal));
     }
 }
 

@@ -7,7 +7,7 @@ use pyr_num::{Bin, Quantity, TaskId};
 use std::alloc::Global;
 
 // The line of `DIAMOND` that is changed, what stands there instead, and what is told.
-const OF_LINES: [(u32, &[u8], Refusal); 18] = [
+const OF_LINES: &[(u32, &[u8], Refusal)] = &[
     (11, b"push 18446744073709551616\n", Refusal::Text(11)),
     (1, b"pyrros 2\n", Refusal::Text(1)),
     (2, b"processors 02\n", Refusal::Text(2)),
@@ -45,12 +45,12 @@ fn tells_texts_with_one_change(rt: HostRuntime) {
     let greatest = b"push 18446744073709551615\n";
     assert!(rt; refusal_with(rt.alloc(), DIAMOND, 11, 11, greatest).is_none());
     for (line, bytes, refusal) in OF_LINES {
-        assert!(rt; refusal_with(rt.alloc(), DIAMOND, line, line, bytes) == Some(refusal));
+        assert!(rt; refusal_with(rt.alloc(), DIAMOND, *line, *line, bytes) == Some(*refusal));
     }
     one_answer_is_told();
 }
 
-const OF_LAWS: [(u32, &[u8], Refusal); 14] = [
+const OF_LAWS: &[(u32, &[u8], Refusal)] = &[
     (4, b"datum x 1\n", Refusal::Law(1, 1, 0)),
     (35, b"reads 1 1\n", Refusal::Law(2, 3, 1)),
     (16, b"writes 0\n", Refusal::Law(3, 0, 0)),
@@ -70,7 +70,7 @@ const OF_LAWS: [(u32, &[u8], Refusal); 14] = [
 #[test]
 fn tells_broken_laws(rt: HostRuntime) {
     for (line, bytes, refusal) in OF_LAWS {
-        assert!(rt; refusal_with(rt.alloc(), DIAMOND, line, line, bytes) == Some(refusal));
+        assert!(rt; refusal_with(rt.alloc(), DIAMOND, *line, *line, bytes) == Some(*refusal));
     }
 }
 
@@ -116,7 +116,7 @@ fn is_printed(alloc: Global, text: &[u8]) -> bool {
 
 #[test]
 fn prints_what_it_read(rt: HostRuntime) {
-    for text in [DIAMOND, EMPTY, FORMS] {
+    for text in &[DIAMOND, EMPTY, FORMS] {
         assert!(rt; is_printed(rt.alloc(), text));
     }
 }

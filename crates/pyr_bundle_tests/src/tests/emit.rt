@@ -38,7 +38,6 @@ task d 9\nreads q\nend\n";
 
 // A program with the processor of each task, and the end of its bundle's text: what is printed, the
 // channels and the code of each processor.
-#[derive(Clone, Copy)]
 struct Case {
     text: &'static [u8],
     processors: u32,
@@ -46,7 +45,7 @@ struct Case {
     end: &'static [u8],
 }
 
-const CASES: [Case; 5] = [
+const CASES: &[Case] = &[
     Case {
         text: HEAVY_DIAMOND,
         processors: 2,

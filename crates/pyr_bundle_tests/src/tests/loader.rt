@@ -45,8 +45,8 @@ fn steps_of(alloc: Global, text: &[u8]) -> Option<u64> {
 
 #[test]
 fn loads_what_runs_to_its_end(rt: HostRuntime) {
-    for (text, steps) in [(DIAMOND, 10), (ROOMY, 14), (SWAPPED, 8)] {
-        assert_eq!(rt; steps_of(rt.alloc(), text), Some(steps));
+    for (text, steps) in &[(DIAMOND, 10), (ROOMY, 14), (SWAPPED, 8)] {
+        assert_eq!(rt; steps_of(rt.alloc(), text), Some(*steps));
     }
     one_answer_is_told();
     loaded_bundles_are_safe();
@@ -90,7 +90,7 @@ const LACKS_1: Stop = Stop {
     reason: Reason::Lacks { datum: DatumId(1) },
 };
 
-const STUCK: [(&[u8], &[Stop]); 5] = [
+const STUCK: &[(&[u8], &[Stop])] = &[
     (MUTUAL, &[WAITS_FOR_1, WAITS_FOR_0]),
     (CROSSING, &[FULL_TO_1, FULL_TO_0]),
     (UNMADE, &[LACKS_0, WAITS_FOR_0]),
@@ -116,14 +116,14 @@ fn left_of(alloc: Global, text: &[u8]) -> Option<(u32, u32, u32)> {
 
 #[test]
 fn tells_what_is_left(rt: HostRuntime) {
-    for (text, left) in [
+    for (text, left) in &[
         (LEFT, (0, 1, 0)),
         // the receiver comes before the place
         (LEFT_TWICE, (0, 1, 1)),
         (LEFT_ONCE, (0, 2, 0)),
         (LEFT_IN_STASH, (0, 1, 0)),
     ] {
-        assert!(rt; left_of(rt.alloc(), text) == Some(left));
+        assert!(rt; left_of(rt.alloc(), text) == Some(*left));
     }
 }
 

@@ -36,7 +36,6 @@ fn run_out<N: Net>(net: &mut N, greatest: bool) -> u64 {
 // A bundle of two processors, with the number of steps of its longest runs, where each processor
 // stands at their end and what it does next, and how many parcels are on their way from the first to
 // the second.
-#[derive(Clone, Copy)]
 struct Case {
     text: &'static [u8],
     steps: u64,
@@ -45,7 +44,7 @@ struct Case {
     on_the_way: u32,
 }
 
-const CASES: [Case; 5] = [
+const CASES: &[Case] = &[
     // each waits for the other
     Case {
         text: MUTUAL,

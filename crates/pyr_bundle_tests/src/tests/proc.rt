@@ -114,7 +114,7 @@ const WRAPPED: Case = Case {
 };
 
 // Sends cross.
-const CROSSED: [Case; 2] = [
+const CROSSED: &[Case] = &[
     Case {
         text: ROOMY,
         datum: 3,
@@ -129,7 +129,7 @@ const CROSSED: [Case; 2] = [
 
 #[test]
 fn two_processors_run(rt: HostRuntime) {
-    for case in [TEN, WRAPPED, CROSSED[0], CROSSED[1]] {
+    for case in &[TEN, WRAPPED, CROSSED[0], CROSSED[1]] {
         assert!(rt; case.is_so(&rt, rt.alloc(), &Free));
     }
 }

@@ -14,8 +14,8 @@ use std::thread::Threads;
 #[test]
 fn check_tells_the_steps_and_run_the_printed_data(rt: HostRuntime) -> Result<(), Fail> {
     let roomy = b"channel 0 1 2\nchannel 1 0 2\n";
-    let roomy = with_lines(rt.alloc(), CROSSING_BUNDLE, 15..=16, roomy)?;
-    for (text, report, output) in [
+    let roomy = with_lines(rt.alloc(), CROSSING_BUNDLE, &(15..=16), roomy)?;
+    for (text, report, output) in &[
         (
             HEAVY_BUNDLE,
             b"accepted\nsteps 10\n".as_slice(),
@@ -53,7 +53,7 @@ fn is_kept<R: Threads + Wait + Sync>(
 
 #[test]
 fn what_is_compiled_prints_what_its_graph_does(rt: HostRuntime) -> Result<(), Fail> {
-    for (processors, text, report) in [
+    for (processors, text, report) in &[
         ("3", DIAMOND, b"accepted\nsteps 4\n".as_slice()),
         ("2", FIVE, b"accepted\nsteps 11\n"),
         ("2", ELIMINATION, b"accepted\nsteps 15\n"),
@@ -80,7 +80,7 @@ fn is_refused<R: Threads + Wait + Sync>(
 
 #[test]
 fn one_changed_place_is_refused(rt: HostRuntime) -> Result<(), Fail> {
-    for (lines, by, status, line) in [
+    for (lines, by, status, line) in &[
         (
             2..=2,
             b"processors 02\n".as_slice(),
@@ -126,7 +126,7 @@ fn one_changed_place_is_refused(rt: HostRuntime) -> Result<(), Fail> {
         (57..=57, b"stop\n\n", Status::Text, b"line 58: text\n"),
     ] {
         let text = with_lines(rt.alloc(), HEAVY_BUNDLE, lines, by)?;
-        assert!(rt; is_refused(&rt, rt.alloc(), &text, status, line)?);
+        assert!(rt; is_refused(&rt, rt.alloc(), &text, *status, line)?);
     }
     Ok(())
 }
@@ -134,11 +134,11 @@ fn one_changed_place_is_refused(rt: HostRuntime) -> Result<(), Fail> {
 #[test]
 fn what_cannot_be_run_is_refused(rt: HostRuntime) -> Result<(), Fail> {
     let alloc = rt.alloc();
-    let wide = with_lines(alloc, CROSSING_BUNDLE, 15..=15, b"channel 0 1 3\n")?;
-    let twice = with_lines(alloc, LEFT_BUNDLE, 13..=13, b"processor 1\nexec 0\n")?;
+    let wide = with_lines(alloc, CROSSING_BUNDLE, &(15..=15), b"channel 0 1 3\n")?;
+    let twice = with_lines(alloc, LEFT_BUNDLE, &(13..=13), b"processor 1\nexec 0\n")?;
     let early = b"send 1 0\nexec 0\nprocessor 1\nrecv 0 0\n";
-    let early = with_lines(alloc, LEFT_BUNDLE, 11..=13, early)?;
-    for (text, status, line) in [
+    let early = with_lines(alloc, LEFT_BUNDLE, &(11..=13), early)?;
+    for (text, status, line) in &[
         (
             WAITING_BUNDLE,
             Status::Stuck,
@@ -157,7 +157,7 @@ fn what_cannot_be_run_is_refused(rt: HostRuntime) -> Result<(), Fail> {
         (&HEAVY_BUNDLE[..9], Status::Text, b"line 2: text\n"),
         (b"", Status::Text, b"line 1: text\n"),
     ] {
-        assert!(rt; is_refused(&rt, alloc, text, status, line)?);
+        assert!(rt; is_refused(&rt, alloc, text, *status, line)?);
     }
     Ok(())
 }

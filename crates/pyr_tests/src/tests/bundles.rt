@@ -51,7 +51,7 @@ processor 0\nexec 0\nsend 1 0\nprocessor 1\nstop\n";
 pub(crate) fn with_lines(
     alloc: Global,
     text: &[u8],
-    lines: RangeInclusive<u32>,
+    lines: &RangeInclusive<u32>,
     by: &[u8],
 ) -> Result<Vec<u8>, AllocError> {
     let mut changed = Vec::new(alloc);

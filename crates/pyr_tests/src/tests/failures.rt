@@ -11,7 +11,6 @@ use std::thread::Threads;
 
 // A command with its output, and how many calls it makes of a source that gives 7 bytes a call, the
 // last of which tells the end, and of a sink that takes 3.
-#[derive(Clone, Copy)]
 struct Case {
     words: &'static [&'static str],
     text: &'static [u8],
@@ -20,7 +19,7 @@ struct Case {
     gives: u32,
 }
 
-const CASES: [Case; 5] = [
+const CASES: &[Case] = &[
     Case {
         words: &["seq"],
         text: SEVEN,

@@ -8,7 +8,7 @@ use std::test::Fail;
 use std::thread::Threads;
 
 // Texts that are refused, with the status and the line of each.
-const REFUSED: [(&[u8], Status, &[u8]); 17] = [
+const REFUSED: &[(&[u8], Status, &[u8])] = &[
     (b"", Status::Names, b"no task\n"),
     (b"task a 0", Status::Limit, b"line 1: limit cost\n"),
     (b"task a 07", Status::Text, b"line 1: text\n"),
@@ -83,7 +83,7 @@ fn is_refused<R: Threads + Wait + Sync>(
     status: Status,
     line: &[u8],
 ) -> Result<bool, AllocError> {
-    for words in [
+    for words in &[
         ["seq"].as_slice(),
         &["cluster"],
         &["gantt", "2"],
@@ -99,7 +99,7 @@ fn is_refused<R: Threads + Wait + Sync>(
 #[test]
 fn each_fault_has_its_line(rt: HostRuntime) -> Result<(), Fail> {
     for (text, status, line) in REFUSED {
-        assert!(rt; is_refused(&rt, rt.alloc(), text, status, line)?);
+        assert!(rt; is_refused(&rt, rt.alloc(), text, *status, line)?);
     }
     Ok(())
 }
@@ -107,12 +107,12 @@ fn each_fault_has_its_line(rt: HostRuntime) -> Result<(), Fail> {
 #[test]
 fn a_text_above_the_limit(rt: HostRuntime) -> Result<(), Fail> {
     let text = vec![in rt.alloc(); b' '; Limits::INPUT + 1]?;
-    for command in ["seq", "run"] {
+    for command in &["seq", "run"] {
         assert!(rt;
             refuses(
                 &rt,
                 rt.alloc(),
-                &[command],
+                &[*command],
                 &text,
                 Status::Limit,
                 b"limit input\n"

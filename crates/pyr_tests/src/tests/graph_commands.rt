@@ -12,7 +12,7 @@ use std::thread::Threads;
 
 #[test]
 fn seq_prints_the_printed_data(rt: HostRuntime) -> Result<(), Fail> {
-    for (text, output) in [
+    for (text, output) in &[
         (SEVEN, b"x = 7\n".as_slice()),
         (DIAMOND, b"w = 10\n"),
         (TWO, b"x = 1\ny = 2\n"),
@@ -28,7 +28,7 @@ fn seq_prints_the_printed_data(rt: HostRuntime) -> Result<(), Fail> {
 
 #[test]
 fn cluster_tells_its_steps(rt: HostRuntime) -> Result<(), Fail> {
-    for (text, report) in [
+    for (text, report) in &[
         (
             DIAMOND,
             b"pt 13\na 0 0 13\nc 0 2 12\nb 0 6 11\nd 0 9 10\nclusters 1\n".as_slice(),
@@ -59,7 +59,7 @@ clusters 4\n",
 
 #[test]
 fn gantt_tells_the_plan(rt: HostRuntime) -> Result<(), Fail> {
-    for (processors, text, report) in [
+    for (processors, text, report) in &[
         (
             "2",
             HEAVY,
@@ -96,7 +96,7 @@ fn gantt_tells_the_plan(rt: HostRuntime) -> Result<(), Fail> {
 1 ##########..................................................\n",
         ),
     ] {
-        assert!(rt; gives(&rt, rt.alloc(), &["gantt", processors], text, report)?);
+        assert!(rt; gives(&rt, rt.alloc(), &["gantt", *processors], text, report)?);
     }
     Ok(())
 }
@@ -112,14 +112,14 @@ print 0\nprocessor 0\nexec 0\nstop\n";
 task 0\nreads\nwrites 0\npush 0\npush 1\nput 0\nend\n\
 task 0\nreads\nwrites 1\npush 0\npush 2\nput 0\nend\n\
 print 0\nprint 1\nprocessor 0\nexec 0\nexec 1\nstop\n";
-    for (processors, text, bundle) in [
+    for (processors, text, bundle) in &[
         ("1", SEVEN, seven.as_slice()),
         ("1", LOOPS, loops),
         ("1", TWO, two),
         ("2", TWO, TWO_BUNDLE),
         ("2", HEAVY, HEAVY_BUNDLE),
     ] {
-        assert!(rt; gives(&rt, rt.alloc(), &["compile", processors], text, bundle)?);
+        assert!(rt; gives(&rt, rt.alloc(), &["compile", *processors], text, bundle)?);
     }
     Ok(())
 }
@@ -138,7 +138,7 @@ fn ends<R: Threads + Wait + Sync>(
 
 #[test]
 fn compile_shares_the_tasks(rt: HostRuntime) -> Result<(), Fail> {
-    for (processors, text, end) in [
+    for (processors, text, end) in &[
         (
             "3",
             DIAMOND,

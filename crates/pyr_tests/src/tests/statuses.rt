@@ -3,7 +3,7 @@ use pyr_top::Status;
 
 #[test]
 fn each_status_has_its_number(rt: HostRuntime) {
-    for (status, code) in [
+    for (status, code) in &[
         (Status::Ok, 0),
         (Status::Usage, 2),
         (Status::Source, 3),
@@ -17,6 +17,6 @@ fn each_status_has_its_number(rt: HostRuntime) {
         (Status::Stuck, 11),
         (Status::Leftover, 12),
     ] {
-        assert_eq!(rt; status.code(), code);
+        assert_eq!(rt; status.code(), *code);
     }
 }

@@ -23,7 +23,7 @@ fn is_no_command<R: Threads + Wait + Sync>(
 
 #[test]
 fn words_that_are_no_command(rt: HostRuntime) -> Result<(), Fail> {
-    for words in [
+    for words in &[
         [].as_slice(),
         &["seq", "x"],
         &["Seq"],
