@@ -1,10 +1,10 @@
-// What each file tests is told by its name; `bodies`, `placements`, `programs` and `telling` are
-// shared by the others.
+// What each file tests is told by its name; `gantt` tests the plans of `pyr_rcp` too, and `bodygen`
+// what the evaluator of `pyr_body` does. `bodies` and `programs` are shared by the others. The steps
+// of `pyr_dsc` are tested by the command `cluster`, in `pyr_tests`.
 mod bodies;
 mod body;
 mod bodygen;
 mod code;
-mod dsc;
 mod gantt;
 mod graph;
 mod graphtext;
@@ -14,8 +14,5 @@ mod make;
 mod merge;
 mod net;
 mod num;
-mod placements;
 mod port;
 mod programs;
-mod rcp;
-mod telling;

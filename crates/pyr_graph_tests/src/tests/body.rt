@@ -1,63 +1,9 @@
-use crate::tests::bodies::{MILLION, PAST_EACH_END, body_behind, body_of, leaves, x_and_r};
-use crate::tests::telling::push_times;
-use pyr_body::{Body, LineFault, SlotNames, nodes, print_body, work};
+use crate::tests::bodies::{MILLION, body_behind, body_of, x_and_r};
+use pyr_body::{Body, LineFault, nodes, print_body};
 use pyr_num::{Limits, Name, Quantity};
 use std::alloc::{AllocError, Global};
 use std::process::Abort;
 use std::test::Fail;
-
-// Loops of no turns and of three, whose locals are read behind them.
-const IDLE_LOOPS: &str = "set s = 5
-for s 0
-done
-put r[0] = s
-for k 3
-done
-put r[1] = k
-put r[2] = frame
-";
-
-// Texts of bodies, with their nodes, their work, and what they leave in the frame 9.
-const EVALUATED: [(&str, u32, u64, [u64; 5]); 3] = [
-    (PAST_EACH_END, 24, 24, [0, 0, 5, 1, 22]),
-    (IDLE_LOOPS, 13, 16, [5, 2, 9, 0, 0]),
-    (MILLION, 4, 1_000_000, [0, 0, 0, 0, 0]),
-];
-
-// Whether the body has so many nodes and so much work, and leaves this output.
-fn is_told(
-    rt: &impl Abort,
-    alloc: Global,
-    text: &str,
-    nodes_wanted: u32,
-    work_wanted: u64,
-    output: [u64; 5],
-) -> Result<bool, LineFault> {
-    let body = body_of(rt, alloc, text)?;
-    let leaves = leaves(rt, alloc, &body, 9, output)?;
-    Ok(leaves && nodes(&body) == nodes_wanted && work(&body) == work_wanted)
-}
-
-#[test]
-fn evaluates_in_place(rt: HostRuntime) -> Result<(), Fail> {
-    for (text, nodes, work, output) in EVALUATED {
-        assert!(rt;
-            is_told(&rt, rt.alloc(), text, nodes, work, output)?,
-            "at {text}"
-        );
-    }
-    Ok(())
-}
-
-#[test]
-fn locals_have_the_names_of_their_lines(rt: HostRuntime) -> Result<(), Fail> {
-    let body = body_of(&rt, rt.alloc(), MILLION)?;
-    assert_eq!(rt; body.locals().len(), 3);
-    for (local, name) in body.locals().iter().zip([b"i", b"j", b"s"]) {
-        assert_eq!(rt; local.bytes(), name.as_slice());
-    }
-    Ok(())
-}
 
 // A text, and its canonical text.
 const SPACED: &str = "set  s=(1+2)
@@ -75,34 +21,34 @@ done
 set i = 18446744073709551615
 ";
 
-fn printed(
-    rt: &impl Abort,
-    alloc: Global,
-    body: &Body,
-    names: &SlotNames,
-) -> Result<Vec<u8>, AllocError> {
-    assert!(rt; names.reads.len() == body.reads() as usize);
-    assert!(rt; names.writes.len() == body.writes() as usize);
-    print_body(alloc, body, names)
+// The text of a body of 18 nodes.
+fn print(rt: &impl Abort, alloc: Global, body: &Body) -> Result<Vec<u8>, AllocError> {
+    assert!(rt; body.reads() == 1 && body.writes() == 1 && nodes(body) == 18);
+    let names = x_and_r(rt, alloc)?;
+    print_body(alloc, body, &names)
+}
+
+fn printed(rt: &impl Abort, alloc: Global, text: &str) -> Result<Vec<u8>, LineFault> {
+    let body = body_of(rt, alloc, text)?;
+    let text = print(rt, alloc, &body);
+    drop(body);
+    Ok(text?)
 }
 
 #[test]
 fn prints_what_it_read(rt: HostRuntime) -> Result<(), Fail> {
-    let body = body_of(&rt, rt.alloc(), SPACED)?;
-    assert_eq!(rt; nodes(&body), 18);
-    let names = x_and_r(&rt, rt.alloc())?;
-    let text = printed(&rt, rt.alloc(), &body, &names)?;
+    let text = printed(&rt, rt.alloc(), SPACED)?;
     assert_eq!(rt; text.as_slice(), CANONICAL.as_bytes());
     Ok(())
 }
 
-// Whether the text is refused for this.
-fn is_refused(rt: &impl Abort, alloc: Global, text: &str, fault: LineFault) -> bool {
-    body_of(rt, alloc, text).err() == Some(fault)
+// Why the text is refused, where the bodies before it have so many nodes.
+fn refusal(rt: &impl Abort, alloc: Global, nodes_before: u32, text: &str) -> Option<LineFault> {
+    body_behind(rt, alloc, nodes_before, text).err()
 }
 
 // Texts whose last line is none.
-const NO_LINES: [&str; 18] = [
+const NO_LINES: &[&str] = &[
     "done",
     "for i 1\ndone\ndone",
     "set s 1",
@@ -127,15 +73,13 @@ const NO_LINES: [&str; 18] = [
 #[test]
 fn refuses_what_is_no_line(rt: HostRuntime) {
     for text in NO_LINES {
-        assert!(rt;
-            is_refused(&rt, rt.alloc(), text, LineFault::Text),
-            "at {text}"
-        );
+        let fault = refusal(&rt, rt.alloc(), 0, text);
+        assert!(rt; fault == Some(LineFault::Text), "at {text}");
     }
 }
 
 // Texts whose last line has an unknown name, and the first one from the left.
-const UNKNOWN: [(&str, &[u8]); 8] = [
+const UNKNOWN: &[(&str, &[u8])] = &[
     ("set s = s", b"s"),
     ("set s = 1\nset s = (s + t)", b"t"),
     ("set s = (a + b)", b"a"),
@@ -150,72 +94,89 @@ const UNKNOWN: [(&str, &[u8]); 8] = [
 fn refuses_unknown_names(rt: HostRuntime) {
     for (text, name) in UNKNOWN {
         let name = Name::new(name).expect(&rt, "a name");
-        assert!(rt;
-            is_refused(&rt, rt.alloc(), text, LineFault::Unknown { name }),
-            "at {text}"
-        );
+        let fault = refusal(&rt, rt.alloc(), 0, text);
+        assert!(rt; fault == Some(LineFault::Unknown { name }), "at {text}");
     }
 }
 
-// Texts whose last line passes a limit: what comes so many times, and what comes then.
-const LIMITS: [(&str, u32, &str, Quantity); 5] = [
-    ("for i 1000000\n", 1, "for j 1000001", Quantity::Count),
-    ("for i 1\n", 16, "for j 1000001", Quantity::Loops),
-    ("set s = 0\n", 2048, "for i 1000001", Quantity::Nodes),
+// As many locals as may be.
+const LOCALS: &str = "\
+set s0 = 0\nset s1 = 0\nset s2 = 0\nset s3 = 0\nset s4 = 0\nset s5 = 0\nset s6 = 0\n\
+set s7 = 0\nset s8 = 0\nset s9 = 0\nset s10 = 0\nset s11 = 0\nset s12 = 0\nset s13 = 0\n\
+set s14 = 0\nset s15 = 0\nset s16 = 0\nset s17 = 0\nset s18 = 0\nset s19 = 0\nset s20 = 0\n\
+set s21 = 0\nset s22 = 0\nset s23 = 0\nset s24 = 0\nset s25 = 0\nset s26 = 0\nset s27 = 0\n\
+set s28 = 0\nset s29 = 0\nset s30 = 0\nset s31 = 0\nset s32 = 0\nset s33 = 0\nset s34 = 0\n\
+set s35 = 0\nset s36 = 0\nset s37 = 0\nset s38 = 0\nset s39 = 0\nset s40 = 0\nset s41 = 0\n\
+set s42 = 0\nset s43 = 0\nset s44 = 0\nset s45 = 0\nset s46 = 0\nset s47 = 0\nset s48 = 0\n\
+set s49 = 0\nset s50 = 0\nset s51 = 0\nset s52 = 0\nset s53 = 0\nset s54 = 0\nset s55 = 0\n\
+set s56 = 0\nset s57 = 0\nset s58 = 0\nset s59 = 0\nset s60 = 0\nset s61 = 0\nset s62 = 0\n\
+set s63 = 0\n";
+
+// Texts behind bodies of so many nodes, whose last line may pass a limit: what comes so many times,
+// what comes then, and the limit.
+const LIMITS: &[(u32, &str, u32, &str, Option<Quantity>)] = &[
     (
+        0,
+        "for i 1000000\n",
+        1,
+        "for j 1000001",
+        Some(Quantity::Count),
+    ),
+    (0, "for i 1\n", 16, "for j 1000001", Some(Quantity::Loops)),
+    (
+        0,
+        "set s = 0\n",
+        2048,
+        "for i 1000001",
+        Some(Quantity::Nodes),
+    ),
+    (
+        0,
         "for s 1\n",
         0,
         "set s = ((((((((((((((((((((((((((((((((",
-        Quantity::Depth,
+        Some(Quantity::Depth),
     ),
-    (MILLION, 1, "for k 0\ndone\n", Quantity::Work),
+    (0, MILLION, 1, "for k 0\ndone\n", Some(Quantity::Work)),
+    (0, LOCALS, 1, "", None),
+    (
+        0,
+        LOCALS,
+        1,
+        "for s63 1\ndone\nfor s64 1",
+        Some(Quantity::Locals),
+    ),
+    (Limits::ALL_NODES - 2, "", 0, "set s = 1", None),
+    (
+        Limits::ALL_NODES - 1,
+        "",
+        0,
+        "set s = a",
+        Some(Quantity::AllNodes),
+    ),
 ];
 
-#[test]
-fn refuses_what_passes_a_limit(rt: HostRuntime) -> Result<(), Fail> {
-    for (first, count, last, which) in LIMITS {
-        let mut text = String::new(rt.alloc());
-        push_times(&mut text, first, count)?;
-        text.push_str(last)?;
-        assert!(rt;
-            is_refused(&rt, rt.alloc(), text.as_str(), LineFault::Limit { which }),
-            "{which:?}"
-        );
-    }
-    Ok(())
-}
-
-#[test]
-fn counts_the_nodes_of_the_bodies_before(rt: HostRuntime) {
-    let which = Quantity::AllNodes;
-    for (nodes_before, line, fault) in [
-        (Limits::ALL_NODES - 2, "set s = 1", None),
-        (
-            Limits::ALL_NODES - 1,
-            "set s = a",
-            Some(LineFault::Limit { which }),
-        ),
-    ] {
-        let body = body_behind(&rt, rt.alloc(), nodes_before, line);
-        assert!(rt; body.err() == fault);
-    }
-}
-
-// Lines that set as many locals as may be.
-fn many_locals(alloc: Global) -> Result<String, AllocError> {
+// A part so many times, and another behind it.
+fn repeated(alloc: Global, first: &str, count: u32, last: &str) -> Result<String, AllocError> {
     let mut text = String::new(alloc);
-    for i in 0..Limits::LOCALS {
-        text.push_str(format!(in alloc; "set s{i} = 0\n")?.as_str())?;
+    for _ in 0..count {
+        text.push_str(first)?;
     }
+    text.push_str(last)?;
     Ok(text)
 }
 
 #[test]
-fn refuses_a_local_too_many(rt: HostRuntime) -> Result<(), Fail> {
-    let mut text = many_locals(rt.alloc())?;
-    assert!(rt; body_of(&rt, rt.alloc(), text.as_str()).is_ok());
-    text.push_str("for s63 1\ndone\nfor s64 1")?;
-    let which = Quantity::Locals;
-    assert!(rt; is_refused(&rt, rt.alloc(), text.as_str(), LineFault::Limit { which }));
+fn refuses_what_passes_a_limit(rt: HostRuntime) -> Result<(), Fail> {
+    for (nodes_before, first, count, last, limit) in LIMITS {
+        let text = repeated(rt.alloc(), first, *count, last)?;
+        let fault = refusal(&rt, rt.alloc(), *nodes_before, text.as_str());
+        drop(text);
+        let wanted = match limit {
+            Some(which) => Some(LineFault::Limit { which: *which }),
+            None => None,
+        };
+        assert!(rt; fault == wanted, "{limit:?}");
+    }
     Ok(())
 }

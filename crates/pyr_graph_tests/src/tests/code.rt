@@ -90,9 +90,12 @@ fn is_within_limits(ops: &[Op], shape: Shape) -> bool
         && size.work <= Limits::WORK
 }
 
-// What the check answers for code within the limits.
-fn check(rt: &impl Abort, code: Vec<Op>, shape: Shape) -> Result<Verified, CodeFault> {
-    assert!(rt; is_within_limits(code.as_slice(), shape));
+// What the check answers for a copy of this code, which is within the limits.
+fn check(rt: &impl Abort, alloc: Global, code: &[Op], shape: Shape) -> Result<Verified, CodeFault> {
+    assert!(rt; is_within_limits(code, shape));
+    let Ok(code) = copy_ops(alloc, code) else {
+        return Err(CodeFault::Memory);
+    };
     verify(code, shape)
 }
 
@@ -109,20 +112,13 @@ const ONE_AND_ONE: Shape = Shape {
     locals: 2,
 };
 
-// The fault of a copy of this code.
-fn fault_of(
-    rt: &impl Abort,
-    alloc: Global,
-    code: &[Op],
-    shape: Shape,
-) -> Result<Option<CodeFault>, AllocError> {
-    let code = copy_ops(alloc, code)?;
-    Ok(check(rt, code, shape).err())
+fn bad(place: u32, kind: BadKind) -> Option<CodeFault> {
+    Some(CodeFault::BadCode { place, kind })
 }
 
 #[test]
-fn tells_the_first_fault(rt: HostRuntime) -> Result<(), Fail> {
-    for (code, shape, place, kind) in [
+fn tells_the_first_fault(rt: HostRuntime) {
+    for (code, shape, place, kind) in &[
         ([Op::Bin(Bin::Add)].as_slice(), EMPTY, 0, BadKind::Underflow),
         (&[Op::Push(1)], EMPTY, 1, BadKind::Height),
         (&[Op::Push(1), Op::Load(2)], ONE_AND_ONE, 1, BadKind::Local),
@@ -137,66 +133,104 @@ fn tells_the_first_fault(rt: HostRuntime) -> Result<(), Fail> {
             BadKind::Underflow,
         ),
     ] {
-        let fault = fault_of(&rt, rt.alloc(), code, shape)?;
-        assert_eq!(rt; fault, Some(CodeFault::BadCode { place, kind }));
+        let fault = check(&rt, rt.alloc(), code, *shape).err();
+        assert_eq!(rt; fault, bad(*place, *kind));
     }
-    Ok(())
 }
 
-// A loop of three turns, with an op behind it.
-fn in_loop(alloc: Global, local: u64, turn: &[Op]) -> Result<Vec<Op>, AllocError> {
+// The fault of a loop of three turns, with an op behind it.
+fn fault_of_loop(
+    rt: &impl Abort,
+    alloc: Global,
+    local: u64,
+    turn: &[Op],
+) -> Result<Option<CodeFault>, AllocError> {
     let turn = copy_ops(alloc, turn)?;
-    Ok(vec![in alloc; Op::Loop(local, 3, Items::from_vec(turn)), Op::Frame]?)
+    let code = vec![in alloc; Op::Loop(local, 3, Items::from_vec(turn)), Op::Frame]?;
+    Ok(check(rt, alloc, &code, ONE_AND_ONE).err())
 }
 
 #[test]
 fn walks_through_loops(rt: HostRuntime) -> Result<(), Fail> {
-    for (local, turn, place, kind) in [
+    for (local, turn, place, kind) in &[
         (0, [Op::Push(1)].as_slice(), 0, BadKind::Height),
         (0, &[Op::Push(1), Op::Load(7)], 2, BadKind::Local),
         (2, &[Op::Sel], 0, BadKind::Local),
         (0, &[Op::Frame, Op::Store(1)], 4, BadKind::Height),
     ] {
-        let code = in_loop(rt.alloc(), local, turn)?;
-        let fault = check(&rt, code, ONE_AND_ONE).err();
-        assert_eq!(rt; fault, Some(CodeFault::BadCode { place, kind }));
+        let fault = fault_of_loop(&rt, rt.alloc(), *local, turn)?;
+        assert_eq!(rt; fault, bad(*place, *kind));
     }
     Ok(())
 }
 
-// Code that pushes 64 words.
-fn tall(alloc: Global) -> Result<Vec<Op>, AllocError> {
+// The fault of code that pushes 64 words before its last op.
+fn fault_of_tall(
+    rt: &impl Abort,
+    alloc: Global,
+    last: Op,
+) -> Result<Option<CodeFault>, AllocError> {
     let mut code = Vec::new(alloc);
     for word in 0..64 {
         code.push(Op::Push(word))?;
     }
-    Ok(code)
+    code.push(last)?;
+    Ok(check(rt, alloc, &code, ONE_AND_ONE).err())
 }
 
 #[test]
 fn holds_64_words_and_no_more(rt: HostRuntime) -> Result<(), Fail> {
-    for (last, place, kind) in [
-        (Op::Load(2), 64, BadKind::Local),
-        (Op::Load(1), 64, BadKind::Tall),
-        (Op::Store(1), 65, BadKind::Height),
-    ] {
-        let mut code = tall(rt.alloc())?;
-        code.push(last)?;
-        let fault = check(&rt, code, ONE_AND_ONE).err();
-        assert_eq!(rt; fault, Some(CodeFault::BadCode { place, kind }));
-    }
+    let unknown = fault_of_tall(&rt, rt.alloc(), Op::Load(2))?;
+    let tall = fault_of_tall(&rt, rt.alloc(), Op::Load(1))?;
+    let left = fault_of_tall(&rt, rt.alloc(), Op::Store(1))?;
+    assert_eq!(rt; unknown, bad(64, BadKind::Local));
+    assert_eq!(rt; tall, bad(64, BadKind::Tall));
+    assert_eq!(rt; left, bad(65, BadKind::Height));
     Ok(())
 }
 
-// Runs code on one input of 3 words and one output of 3 words, and gives the output's first word.
-fn run(rt: &impl Abort, alloc: Global, code: &Verified, frame: u64) -> Result<u64, AllocError> {
+// Runs code twice with one count of steps, which is twice its work.
+fn run_twice<L: Ledger>(code: &Verified, frame: u64, cells: &mut Cells, blank: Blank)
+    requires inputs { length cells.old.inputs ≡ code.now.shape.reads }
+    requires outputs { length cells.old.outputs ≡ code.now.shape.writes }
+    requires name { blank.name ≡ L.name }
+    requires parts { blank.parts ≡ L.parts }
+    requires some { blank.parts ≡ 1 }
+    ensures { length cells.new.outputs ≡ length cells.old.outputs }
+{
+    let mut steps = Steps::<L>::new(blank);
+    exec_counted(code, frame, cells, &mut steps);
+    exec_counted(code, frame, cells, &mut steps);
+}
+
+// Whether the code, run once and twice more with a count, puts just this word into one output of 3
+// words, and the one input of 3 words stays.
+fn puts(rt: &impl Abort, alloc: Global, code: &Verified, word: u64) -> Result<bool, AllocError> {
+    assert!(rt; code.shape() == ONE_AND_ONE);
     let mut cells = Cells::new(alloc, 2, 6)?;
     cells.add_input(&[5, 7, 11]);
     cells.add_output(3);
-    assert!(rt; code.shape() == ONE_AND_ONE);
-    exec(code, frame, &mut cells);
-    assert_eq!(rt; cells.get(0, 4), 7, "the input stays");
-    Ok(cells.get(1, 0))
+    exec(code, 8, &mut cells);
+    let output = [word, 0, 0];
+    let is_put = cells.get(0, 4) == 7 && cells.output(0) == output.as_slice();
+    run_twice::<Brand>(code, 8, &mut cells, Blank::new(1));
+    Ok(is_put && cells.output(0) == output.as_slice())
+}
+
+// Whether a copy of this code puts this word, in so many steps and such a height.
+fn does(
+    rt: &impl Abort,
+    alloc: Global,
+    ops: &[Op],
+    work: u64,
+    height: u32,
+    word: u64,
+) -> Result<bool, Fail> {
+    let code = check(rt, alloc, ops, ONE_AND_ONE)?;
+    let is_told = code.work() == work && code.height() == height && code.ops().len() == ops.len();
+    let puts = puts(rt, alloc, &code, word);
+    drop(code);
+    Ok(is_told && puts?)
 }
 
 // The word below the loop's own height is summed up: 1, then 6, 13 and 24.
@@ -210,70 +244,43 @@ fn sums_in_a_loop(alloc: Global) -> Result<Vec<Op>, AllocError> {
     ]?)
 }
 
-// Whether that code gives the sum, in as many steps and as little room as it takes.
-fn gives_the_sum(rt: &impl Abort, alloc: Global, code: Vec<Op>) -> Result<bool, Fail> {
-    let code = check(rt, code, ONE_AND_ONE)?;
-    let sum = run(rt, alloc, &code, 0)?;
-    Ok(sum == 24 && code.work() == 4 + 3 * 4 && code.height() == 3 && code.ops().len() == 4)
-}
-
 #[test]
 fn runs_a_loop(rt: HostRuntime) -> Result<(), Fail> {
     let code = sums_in_a_loop(rt.alloc())?;
-    let copied = copy_ops(rt.alloc(), &code)?;
-    assert!(rt; gives_the_sum(&rt, rt.alloc(), copied)?);
-    assert!(rt; gives_the_sum(&rt, rt.alloc(), code)?);
+    let does = does(&rt, rt.alloc(), &code, 4 + 3 * 4, 3, 24);
+    drop(code);
+    assert!(rt; does?);
     Ok(())
-}
-
-// The output's first word, once it is set to what this code pushes.
-fn pushed(rt: &impl Abort, alloc: Global, value: &[Op]) -> Result<u64, Fail> {
-    let mut code = vec![in alloc; Op::Push(0)]?;
-    for op in copy_ops(alloc, value)? {
-        code.push(op)?;
-    }
-    code.push(Op::Put(0))?;
-    let code = check(rt, code, ONE_AND_ONE)?;
-    Ok(run(rt, alloc, &code, 8)?)
 }
 
 #[test]
 fn takes_operands_in_order(rt: HostRuntime) -> Result<(), Fail> {
-    for (value, wanted) in [
-        ([Op::Push(9), Op::Push(4), Op::Bin(Bin::Sub)].as_slice(), 5),
-        (&[Op::Push(1), Op::Push(2), Op::Push(3), Op::Sel], 2),
-        (&[Op::Push(0), Op::Push(2), Op::Push(3), Op::Sel], 3),
-        (&[Op::Frame, Op::Store(1), Op::Load(1)], 8),
-        (&[Op::Push(2), Op::Get(1)], 0),
+    const ZERO: Op = Op::Push(0);
+    const PUT: Op = Op::Put(0);
+    for (code, work, height, word) in &[
+        (
+            [ZERO, Op::Push(9), Op::Push(4), Op::Bin(Bin::Sub), PUT].as_slice(),
+            5,
+            3,
+            5,
+        ),
+        (
+            &[ZERO, Op::Push(1), Op::Push(2), Op::Push(3), Op::Sel, PUT],
+            6,
+            4,
+            2,
+        ),
+        (
+            &[ZERO, Op::Push(0), Op::Push(2), Op::Push(3), Op::Sel, PUT],
+            6,
+            4,
+            3,
+        ),
+        (&[ZERO, Op::Frame, Op::Store(1), Op::Load(1), PUT], 5, 2, 8),
+        (&[ZERO, Op::Push(2), Op::Get(1), PUT], 4, 2, 0),
+        (&[ZERO, Op::Push(2), Op::Get(0), PUT], 4, 2, 11),
     ] {
-        assert_eq!(rt; pushed(&rt, rt.alloc(), value)?, wanted);
+        assert!(rt; does(&rt, rt.alloc(), code, *work, *height, *word)?);
     }
-    Ok(())
-}
-
-// Runs code twice with one count of steps, which is twice its work.
-fn run_twice<L: Ledger>(code: &Verified, cells: &mut Cells, blank: Blank)
-    requires inputs { length cells.old.inputs ≡ code.now.shape.reads }
-    requires outputs { length cells.old.outputs ≡ code.now.shape.writes }
-    requires name { blank.name ≡ L.name }
-    requires parts { blank.parts ≡ L.parts }
-    requires some { blank.parts ≡ 1 }
-    ensures { length cells.new.outputs ≡ length cells.old.outputs }
-{
-    let mut steps = Steps::<L>::new(blank);
-    exec_counted(code, 0, cells, &mut steps);
-    exec_counted(code, 0, cells, &mut steps);
-}
-
-#[test]
-fn counts_steps(rt: HostRuntime) -> Result<(), Fail> {
-    let code = vec![in rt.alloc(); Op::Push(0), Op::Push(2), Op::Get(0), Op::Put(0)]?;
-    let code = check(&rt, code, ONE_AND_ONE)?;
-    let mut cells = Cells::new(rt.alloc(), 2, 6)?;
-    cells.add_input(&[5, 7, 11]);
-    cells.add_output(3);
-    assert!(rt; code.shape() == ONE_AND_ONE);
-    run_twice::<Brand>(&code, &mut cells, Blank::new(1));
-    assert_eq!(rt; cells.output(0), [11, 0, 0].as_slice());
     Ok(())
 }

@@ -59,13 +59,26 @@ end
 print w
 ";
 
+fn printed(rt: &impl Abort, alloc: Global, text: &str) -> Result<Vec<u8>, ProgramFault> {
+    let program = program_of(rt, alloc, text)?;
+    let text = print_program(alloc, &program);
+    drop(program);
+    Ok(text?)
+}
+
 #[test]
 fn prints_the_canonical_text(rt: HostRuntime) -> Result<(), Fail> {
-    let alloc = rt.alloc();
-    let program = program_of(&rt, alloc, DIAMOND)?;
-    let text = print_program(alloc, &program)?;
+    let text = printed(&rt, rt.alloc(), DIAMOND)?;
     assert_eq!(rt; text.as_slice(), CANONICAL.as_bytes());
     Ok(())
+}
+
+// The values of the printed data in a frame.
+fn values(rt: &impl Abort, alloc: Global, text: &str, frame: u64) -> Result<Outputs, ProgramFault> {
+    let program = program_of(rt, alloc, text)?;
+    let outputs = sequential(alloc, &program, frame);
+    drop(program);
+    Ok(outputs?)
 }
 
 // Whether one word was printed, and this one.
@@ -78,44 +91,48 @@ fn is_word(outputs: &Outputs, word: u64) -> bool {
 
 #[test]
 fn runs_the_tasks_in_a_topological_order(rt: HostRuntime) -> Result<(), Fail> {
-    let alloc = rt.alloc();
-    let program = program_of(&rt, alloc, DIAMOND)?;
-    assert!(rt; is_word(&sequential(alloc, &program, 0)?, 10));
-    assert!(rt; is_word(&sequential(alloc, &program, 2)?, 16));
+    for (frame, word) in &[(0, 10), (2, 16)] {
+        let outputs = values(&rt, rt.alloc(), DIAMOND, *frame)?;
+        assert!(rt; is_word(&outputs, *word));
+    }
     Ok(())
 }
 
-fn listed(alloc: Global, names: &[Name]) -> Result<String, AllocError> {
-    let mut text = String::new(alloc);
+fn text_of(name: &Name) -> &str {
+    str::from_utf8(name.bytes()).unwrap_or("?")
+}
+
+fn cycle_told(alloc: Global, names: &[Name]) -> Result<String, AllocError> {
+    let mut text = String::from_str(alloc, "cycle")?;
     for name in names {
         text.push_str(" ")?;
-        text.push_str(str::from_utf8(name.bytes()).unwrap_or("?"))?;
+        text.push_str(text_of(name))?;
     }
     Ok(text)
 }
 
-fn told(alloc: Global, fault: &ProgramFault) -> Result<String, AllocError> {
-    match fault {
-        ProgramFault::BadText { line } => format!(in alloc; "{line}: text"),
-        ProgramFault::Limit { line, which } => format!(in alloc; "{line}: {which:?}"),
-        ProgramFault::Names { line, kind, name } => {
-            let name = listed(alloc, &[*name])?;
-            format!(in alloc; "{line}: {kind:?}{name}")
+// Why a text stands for no program.
+fn refusal(rt: &impl Abort, alloc: Global, text: &str) -> Result<String, AllocError> {
+    let fault = program_of(rt, alloc, text).err();
+    match &fault {
+        None => format!(in alloc; "a program"),
+        Some(ProgramFault::BadText { line }) => format!(in alloc; "{line}: text"),
+        Some(ProgramFault::Limit { line, which }) => format!(in alloc; "{line}: {which:?}"),
+        Some(ProgramFault::Names { line, kind, name }) => {
+            let name = text_of(name);
+            format!(in alloc; "{line}: {kind:?} {name}")
         }
-        ProgramFault::NoWriter { name } => {
-            let name = listed(alloc, &[*name])?;
-            format!(in alloc; "no writer{name}")
+        Some(ProgramFault::NoWriter { name }) => {
+            let name = text_of(name);
+            format!(in alloc; "no writer {name}")
         }
-        ProgramFault::Cycle { names } => {
-            let names = listed(alloc, names.as_slice())?;
-            format!(in alloc; "cycle{names}")
-        }
-        other => format!(in alloc; "{other}"),
+        Some(ProgramFault::Cycle { names }) => cycle_told(alloc, names.as_slice()),
+        Some(other) => format!(in alloc; "{other}"),
     }
 }
 
 // Texts that stand for no program, and what is told of them.
-const FAULTY: [(&str, &str); 22] = [
+const FAULTY: &[(&str, &str)] = &[
     ("", "there is no task"),
     (" \t\r\n# no task", "there is no task"),
     ("task a 1", "2: text"),
@@ -160,12 +177,9 @@ task b 1\nreads x\nwrites y\nend\ntask c 1\nreads y\nwrites z\nend",
 
 #[test]
 fn tells_the_first_fault(rt: HostRuntime) -> Result<(), Fail> {
-    let alloc = rt.alloc();
     for (text, expected) in FAULTY {
-        let Err(fault) = program_of(&rt, alloc, text) else {
-            return Err("a program")?;
-        };
-        assert_eq!(rt; told(alloc, &fault)?.as_str(), expected, "at {text:?}");
+        let found = refusal(&rt, rt.alloc(), text)?;
+        assert_eq!(rt; found.as_str(), *expected, "at {text:?}");
     }
     Ok(())
 }

@@ -2,9 +2,9 @@ ghost use Rattle.std.specs.Prelude.{◌≡◌, ◌<◌, ◌≤◌, IfOk};
 ghost use Rattle.pyr_graphtext.specs.Canonical.{program_text};
 ghost use Rattle.pyr_make.specs.Layered.{layered_program};
 
-use pyr_graphtext::{print_program, sequential};
+use pyr_graphtext::print_program;
 use pyr_make::make;
-use pyr_num::{Limits, Outputs};
+use pyr_num::Limits;
 use std::alloc::{AllocError, Global};
 use std::test::Fail;
 
@@ -17,47 +17,8 @@ fn printed(alloc: Global, tasks: u32) -> Result<Vec<u8>, AllocError>
     print_program(alloc, &make(alloc, tasks)?)
 }
 
-// The canonical text of the program of one task.
-const ONE_TASK: &str = "data d0 1 0
-task t0 1
-writes d0
-put d0[0] = (frame + 0)
-end
-print d0
-";
-
-#[test]
-fn one_task_is_printed(rt: HostRuntime) -> Result<(), Fail> {
-    let text = printed(rt.alloc(), 1)?;
-    assert_eq!(rt; text.as_slice(), ONE_TASK.as_bytes());
-    Ok(())
-}
-
-// Whether these two words were printed, each of a datum of its own.
-fn are_words(outputs: &Outputs, first: u64, second: u64) -> bool {
-    match outputs.lists.as_slice() {
-        [a, b] => a.as_slice() == [first].as_slice() && b.as_slice() == [second].as_slice(),
-        _ => false,
-    }
-}
-
-// What the program of so many tasks computes.
-fn computed(alloc: Global, tasks: u32) -> Result<Outputs, AllocError>
-    requires some { 0 < tasks }
-    requires few { tasks ≤ Limits.TASKS }
-{
-    sequential(alloc, &make(alloc, tasks)?, 0)
-}
-
-#[test]
-fn the_second_layer_is_computed_from_the_first(rt: HostRuntime) -> Result<(), Fail> {
-    let outputs = computed(rt.alloc(), 66)?;
-    assert!(rt; are_words(&outputs, 65, 74));
-    Ok(())
-}
-
 // The lines of tasks whose predecessors stand the other way round, or are one.
-const TASK_LINES: [&str; 2] = [
+const TASK_LINES: &[&str] = &[
     "task t127 44
 reads d60 d63
 writes d127

@@ -1,8 +1,10 @@
 use pyr_num::{Bin, Cells, DatumId, Name, Outputs, Parcel, ProcId, TaskId, Words, apply};
+use sqlite_items::Items;
+use std::alloc::{AllocError, Global};
 use std::test::Fail;
 
 // Operators, two words, and the word that they give.
-const OPERATIONS: [(Bin, u64, u64, u64); 19] = [
+const OPERATIONS: &[(Bin, u64, u64, u64)] = &[
     (Bin::Add, u64::MAX, 1, 0),
     (Bin::Sub, 3, 5, u64::MAX - 1),
     (Bin::Mul, 1 << 63, 2, 0),
@@ -31,12 +33,12 @@ fn gives(op: Bin, a: u64, b: u64, value: u64) -> bool {
 #[test]
 fn applies_each_operator(rt: HostRuntime) {
     for (op, a, b, value) in OPERATIONS {
-        assert!(rt; gives(op, a, b, value), "{op:?}");
+        assert!(rt; gives(*op, *a, *b, *value), "{op:?}");
     }
 }
 
 // Texts, and whether each is a name.
-const TEXTS: [(&[u8], bool); 14] = [
+const TEXTS: &[(&[u8], bool)] = &[
     (b"x", true),
     (b"_a9", true),
     (b"Z", true),
@@ -56,14 +58,15 @@ const TEXTS: [(&[u8], bool); 14] = [
 #[test]
 fn takes_names_alone(rt: HostRuntime) {
     for (text, is_name) in TEXTS {
-        assert_eq!(rt; Name::new(text).is_some(), is_name, "at {text:?}");
+        assert_eq!(rt; Name::new(text).is_some(), *is_name, "at {text:?}");
     }
 }
 
 #[test]
-fn compares_names(rt: HostRuntime) {
-    assert!(rt; Name::new(b"a") == Name::new(b"a"));
-    assert!(rt; Name::new(b"a") != Name::new(b"b"));
+fn compares_names_and_numbers(rt: HostRuntime) {
+    let (a, b) = (Name::new(b"a"), Name::new(b"b"));
+    assert!(rt; a == Name::new(b"a") && a != b);
+    assert!(rt; TaskId(0) != TaskId(1) && ProcId(2) != ProcId(1));
 }
 
 #[test]
@@ -72,12 +75,12 @@ fn cells_hold_what_was_put(rt: HostRuntime) -> Result<(), Fail> {
     cells.add_input(&[11, 22]);
     cells.add_output(3);
     cells.put(0, 4, 7);
-    assert_eq!(rt; cells.get(0, 5), 22);
-    assert_eq!(rt; cells.get(1, 1), 7);
-    assert_eq!(rt; cells.output(0), [0, 7, 0].as_slice());
+    let is_put = cells.get(0, 5) == 22
+        && cells.get(1, 1) == 7
+        && cells.output(0) == [0, 7, 0].as_slice();
     cells.clear();
     cells.add_output(5);
-    assert_eq!(rt; cells.output(0), [0, 0, 0, 0, 0].as_slice());
+    assert!(rt; is_put && cells.output(0) == [0, 0, 0, 0, 0].as_slice());
     Ok(())
 }
 
@@ -86,17 +89,23 @@ fn moved<T: Send>(value: T) -> T {
     value
 }
 
+// Whether a parcel is whole behind its move.
+fn parcel_moves(alloc: Global) -> Result<bool, AllocError> {
+    let words = Words::from_slice(alloc, &[10])?;
+    let tag = DatumId(3);
+    let parcel = moved(Parcel { tag, words });
+    Ok(parcel.tag == tag && parcel.words.as_slice() == [10].as_slice())
+}
+
+// Whether outputs are.
+fn outputs_move(alloc: Global) -> Result<bool, AllocError> {
+    let words = Words::from_slice(alloc, &[10])?;
+    let lists = Items::from_vec(vec![in alloc; words]?);
+    Ok(moved(Outputs { lists }).lists.len() == 1)
+}
+
 #[test]
 fn parcels_and_outputs_move_to_another_thread(rt: HostRuntime) -> Result<(), Fail> {
-    let parcel = moved(Parcel {
-        tag: DatumId(3),
-        words: Words::from_slice(rt.alloc(), &[10])?,
-    });
-    assert!(rt; parcel.tag == DatumId(3) && TaskId(0) != TaskId(1) && ProcId(2) != ProcId(1));
-    assert_eq!(rt; parcel.words.as_slice(), [10].as_slice());
-    let mut lists = sqlite_items::Items::new(rt.alloc());
-    lists.push(parcel.words)?;
-    let outputs = moved(Outputs { lists });
-    assert_eq!(rt; outputs.lists.len(), 1);
+    assert!(rt; parcel_moves(rt.alloc())? && outputs_move(rt.alloc())?);
     Ok(())
 }

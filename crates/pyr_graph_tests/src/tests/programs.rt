@@ -4,28 +4,6 @@ use pyr_num::Limits;
 use std::alloc::Global;
 use std::process::Abort;
 
-// A diamond: `d` reads what `b` and `c` make of the word of `a`.
-pub(crate) const DIAMOND: &str = "data x 1 5
-data y 1 1
-data z 1 1
-data w 1 0
-task a 2
-writes x
-end
-task b 3
-reads x
-writes y
-end
-task c 4
-reads x
-writes z
-end
-task d 1
-reads y z
-writes w
-end
-";
-
 // A diamond whose tasks in the middle are heavy.
 pub(crate) const HEAVY: &str = "data x 1 1
 data y 1 1
