@@ -1,5 +1,5 @@
 -- Lists: the last element, what holds of all but the last, and tests on numbers.
-use Rattle.std.proofs.Common.{◌≡◌, ◌≢◌, ℕ, ◌+◌, ◌<◌, ◌⊎◌, inl, inr, List, [], ◌∷◌, ◌++◌, length, true, false, arith, refl, ap, sym, ◌∙◌, eqb-true, eq-eqb, length-append}
+use Rattle.std.proofs.Common.{◌≡◌, ◌≢◌, ℕ, zero, suc, ◌+◌, ◌<◌, ◌⊎◌, inl, inr, List, [], ◌∷◌, ◌++◌, length, get_or, true, false, arith, refl, ap, sym, ◌∙◌, eqb-true, eq-eqb, length-append}
 use Rattle.std.specs.Prelude.{nat_eq, All, Any, AllPairs, Contains}
 use Rattle.std.specs.List.{list_any}
 use Rattle.std.proofs.lemmas.Bool.{cases_lt, false_from_ne_true}
@@ -21,6 +21,13 @@ pub tested-Contains : (n : ℕ) (xs : List ℕ) → Contains xs n → list_any (
 tested-Contains n xs held = list_any-from_Contains nat_eq_equiv n xs held
 
 module _ {X : Type 0} where
+  -- one more empty list
+  pub all_empty-push : (rows : List (List X)) → ((t : ℕ) → get_or rows t [] ≡ []) → (t : ℕ) → get_or (rows ++ [] ∷ []) t [] ≡ []
+  all_empty-push [] all zero = refl
+  all_empty-push [] all (suc t) = refl
+  all_empty-push (row ∷ rows) all zero = all 0
+  all_empty-push (row ∷ rows) all (suc t) = all_empty-push rows (λ u. all (suc u)) t
+
   -- a list is empty, or has a last element
   pub last_of : (xs : List X) → (xs ≡ []) ⊎ ((front : List X) × (last : X) × (xs ≡ front ++ last ∷ []))
   last_of [] = inl refl

@@ -10,11 +10,11 @@ use Rattle.std.proofs.lemmas.List.Folds.{list_any-append, Any-from_list_any, lis
 use Rattle.std.proofs.lemmas.List.Sums.{sum_by-cons}
 use Rattle.pyr_graph.specs.declared.edge.Edge.{Edge}
 use Rattle.pyr_graph.specs.Removal.{IsLeast, IsRemoved, all_before, IsLeft, IsReady, IsSmallestFirst, IsFoundCycle}
-use Rattle.pyr_graph.specs.Tables.{times_in, Precedes, AreRows, AreOpposite, IsWaiting}
+use Rattle.pyr_graph.specs.Tables.{times_in, Precedes, AreRows, AreOpposite, IsWaiting, AreTakenOut}
 use Rattle.pyr_graph.proofs.ListLemmas.{nat_eq-same, nat_eq-apart, Contains-tested, tested-Contains}
 use Rattle.pyr_graph.proofs.Counting.{length-ge_from_all, length-le_from_apart}
 use Rattle.pyr_graph.proofs.ReleaseLemmas.{IsIn}
-use Rattle.pyr_graph.proofs.SmallestFirst.{IsSmallestFirst-push, IsSmallestFirst-none, before_in, IsRemoved-from_first}
+use Rattle.pyr_graph.proofs.SmallestFirst.{IsSmallestFirst-push, IsSmallestFirst-none, length-le_from_first, before_in, IsRemoved-from_first}
 use Rattle.pyr_graph.proofs.TrailLemmas.{IsFoundCycle-same, waiting_in}
 
 -- how many edges of a row come from tasks that are not out
@@ -98,8 +98,7 @@ times_in-found (e ∷ row) t many = elim (cases_eq e.task.0 t) [
 ]
 
 -- the state of the order: which tasks are out, for how many predecessors each task waits, and which tasks are ready
-pub record IsOrdering (rows : List (List Edge)) (order pending : List ℕ) (ready : BTreeSet ℕ) (step : ℕ) : Type 0 where
-  pub many : length order ≡ step
+pub record IsOrdering (rows : List (List Edge)) (order pending : List ℕ) (ready : BTreeSet ℕ) : Type 0 where
   pub full : length pending ≡ length rows
   pub first : IsSmallestFirst (length rows) (Precedes rows) order
   pub waits : (t : ℕ) → t < length rows → slice_index pending t ≡ missing order (slice_index_or rows t [])
@@ -107,9 +106,8 @@ pub record IsOrdering (rows : List (List Edge)) (order pending : List ℕ) (read
 
 -- before the first task is out
 pub IsOrdering-start : (rows : List (List Edge)) (pending : List ℕ) (ready : BTreeSet ℕ) → pending ≡ map length rows
-    → ((t : ℕ) → IsIn ready t ↔ ((t < length pending) × (slice_index pending t ≡ 0))) → IsOrdering rows [] pending ready 0
+    → ((t : ℕ) → IsIn ready t ↔ ((t < length pending) × (slice_index pending t ≡ 0))) → IsOrdering rows [] pending ready
 IsOrdering-start rows pending ready counts free = record {
-  many = refl;
   full = full;
   first = IsSmallestFirst-none (length rows) (Precedes rows);
   waits = λ t t_in.
@@ -129,7 +127,7 @@ IsOrdering-start rows pending ready counts free = record {
     all_missing [] = refl
     all_missing (e ∷ row) = omega (arith, missing-cons [] e row, all_missing row)
 
-module _ (rows : List (List Edge)) (order pending : List ℕ) (ready : BTreeSet ℕ) (step : ℕ) (is : IsOrdering rows order pending ready step) where
+module _ (rows : List (List Edge)) (order pending : List ℕ) (ready : BTreeSet ℕ) (is : IsOrdering rows order pending ready) where
   -- a task of which no predecessor is missing is ready
   all_before_out : (t : ℕ) → t < length rows → slice_index pending t ≡ 0 → (a : ℕ) → Precedes rows a t → Contains order a
   all_before_out t t_in none a edge = all_out order (slice_index_or rows t []) (sym (is.waits t t_in) ∙ none) a edge
@@ -151,9 +149,8 @@ module _ (rows : List (List Edge)) (order pending : List ℕ) (ready : BTreeSet 
       → ((q : ℕ) → slice_index left q + times_in (slice_index_or forth t []) q ≡ slice_index pending q)
       → ((q : ℕ) → IsIn now q ↔ (IsIn popped q ⊎ ((0 < times_in (slice_index_or forth t []) q) × (slice_index left q ≡ 0))))
       → AreRows (length rows) forth
-      → IsOrdering rows (order ++ t ∷ []) left now (step + 1)
+      → IsOrdering rows (order ++ t ∷ []) left now
   IsOrdering-step forth t popped now left opposite held least others same_len fewer grown tasks = record {
-    many = rw length-append (omega (arith, is.many));
     full = omega (arith, same_len, is.full);
     first = IsSmallestFirst-push (length rows) (Precedes rows) order t is.first ready_t;
     waits = λ q q_in. omega (arith, is.waits q q_in, fewer q, missing-push order t (slice_index_or rows q []) out_t, opposite t q);
@@ -200,6 +197,13 @@ module _ (rows : List (List Edge)) (order pending : List ℕ) (ready : BTreeSet 
         )))
       ]
 
+  -- a task that is ready is not out, so not all are
+  pub some_out : (t : ℕ) → IsIn ready t → ((q : ℕ) → IsIn ready q → t ≤ q) → length order < length rows
+  some_out t held least =
+      let longer = IsSmallestFirst-push (length rows) (Precedes rows) order t is.first (smallest_ready t held least) in
+      let most : length order + 1 ≤ length rows = rw length-append at (length-le_from_first (length rows) (Precedes rows) (order ++ t ∷ []) longer) in
+      omega arith
+
   -- there is as much to take away
   pub enough : (forth : List (List Edge)) (t : ℕ) → AreOpposite forth rows → IsIn ready t → (q : ℕ) → times_in (slice_index_or forth t []) q ≤ slice_index pending q
   enough forth t opposite held q = elim (cases_lt q (length rows)) [
@@ -232,7 +236,7 @@ module _ (rows : List (List Edge)) (order pending : List ℕ) (ready : BTreeSet 
     ]
 
     -- so one does where not all tasks are out
-    pub some_waiting : length order < length rows → (t : ℕ) × IsWaiting pending t
+    some_waiting : length order < length rows → (t : ℕ) × IsWaiting pending t
     some_waiting fewer = elim (cases_Bool (list_any (λ p. nat_lt 0 p) pending)) [
       | inl found ↦ (let (k, p, inside, at, many) = Any-from_list_any (λ p. nat_lt 0 p) pending found in
           let read = get_or_default_zero pending k p inside in
@@ -250,7 +254,7 @@ module _ (rows : List (List Edge)) (order pending : List ℕ) (ready : BTreeSet 
     ]
 
     -- each of them waits for one that waits
-    pub some_before : (t : ℕ) → IsWaiting pending t → (a : ℕ) × IsWaiting pending a × Precedes rows a t
+    some_before : (t : ℕ) → IsWaiting pending t → (a : ℕ) × IsWaiting pending a × Precedes rows a t
     some_before t waits =
         let t_in : t < length rows = omega (arith, waiting_in pending t waits, is.full) in
         let (a, edge, out) = some_missing order (slice_index_or rows t []) (omega (arith, is.waits t t_in, waits)) in
@@ -259,23 +263,39 @@ module _ (rows : List (List Edge)) (order pending : List ℕ) (ready : BTreeSet 
         a_in : (t a : ℕ) → Precedes rows a t → a < length rows
         a_in t a (k, e, inside, at, to_a) = (let e_in = tasks.tasks t k e inside in rw (at, to_a) at e_in)
 
-    -- and is never removed
-    left_from_waiting : (t : ℕ) → IsWaiting pending t → IsRemoved (Precedes rows) t → ⊥
-    left_from_waiting t waits (all_before before) =
-        let (a, waits_a, edge) = some_before t waits in
-        left_from_waiting a waits_a (before a edge)
-
     waiting_from_left : (t : ℕ) → IsLeft (length rows) (Precedes rows) t → IsWaiting pending t
     waiting_from_left t left = elim (in_or_out t) [
       | inl held ↦ absurd (left.1 (IsRemoved-from_first (length rows) (Precedes rows) order is.first t held))
       | inr out ↦ waiting_from_out t left.0 out
     ]
 
-    -- so the walk over the tasks that wait is the walk over those that are left
-    pub IsFoundCycle-left : (cycle : List ℕ) → IsFoundCycle (IsWaiting pending) (Precedes rows) cycle → IsFoundCycle (IsLeft (length rows) (Precedes rows)) (Precedes rows) cycle
-    IsFoundCycle-left cycle found =
-        IsFoundCycle-same (IsWaiting pending) (IsLeft (length rows) (Precedes rows)) (Precedes rows) (Precedes rows)
-        (λ t waits. (omega (arith, waiting_in pending t waits, is.full), left_from_waiting t waits)) waiting_from_left (λ a t edge. edge) (λ a t edge. edge) cycle found
+    -- so all that could be taken out are
+    pub AreTakenOut-end : AreTakenOut rows order pending
+    AreTakenOut-end = record {
+      full = is.full;
+      most = length-le_from_first (length rows) (Precedes rows) order is.first;
+      first = is.first;
+      some_waits = some_waiting;
+      stuck = some_before;
+      left = waiting_from_left;
+    }
+
+module _ (rows : List (List Edge)) (order pending : List ℕ) (taken : AreTakenOut rows order pending) where
+  -- a task that waits is never removed
+  left_from_waiting : (t : ℕ) → IsWaiting pending t → IsRemoved (Precedes rows) t → ⊥
+  left_from_waiting t waits (all_before before) =
+      let (a, waits_a, edge) = taken.stuck t waits in
+      left_from_waiting a waits_a (before a edge)
+
+  -- so the walk over the tasks that wait is the walk over those that are left
+  pub IsFoundCycle-left : (cycle : List ℕ) → IsFoundCycle (IsWaiting pending) (Precedes rows) cycle → IsFoundCycle (IsLeft (length rows) (Precedes rows)) (Precedes rows) cycle
+  IsFoundCycle-left cycle found =
+      IsFoundCycle-same (IsWaiting pending) (IsLeft (length rows) (Precedes rows)) (Precedes rows) (Precedes rows)
+      (λ t waits. (omega (arith, waiting_in pending t waits, taken.full), left_from_waiting t waits)) taken.left (λ a t edge. edge) (λ a t edge. edge) cycle found
+
+  -- where no task is left, all are out
+  pub all_taken : (n : ℕ) → length rows ≤ n → n ≡ length order → length order ≡ length rows
+  all_taken n past many = omega (arith, taken.most)
 
 -- a row is no longer than the tasks are many
 pub row_short : (count : ℕ) (rows : List (List Edge)) → AreRows count rows → (t : ℕ) → length (slice_index_or rows t []) ≤ count

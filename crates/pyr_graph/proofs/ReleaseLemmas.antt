@@ -16,6 +16,12 @@ pub record IsReleased (row : List Edge) (old new : List ℕ) (Was Is : ℕ → T
   pub pending : (t : ℕ) → slice_index new t + times_in row t ≡ slice_index old t
   pub ready : (t : ℕ) → Is t ↔ (Was t ⊎ ((0 < times_in row t) × (slice_index new t ≡ 0)))
 
+pub IsReleased-none : (pending : List ℕ) (Is : ℕ → Type 0) → IsReleased [] pending pending Is Is
+IsReleased-none pending Is = record {
+  pending = λ t. omega arith;
+  ready = λ t. (λ is. inl is, λ either. elim either [ inl is ↦ is | inr (many, none) ↦ absurd (let no : 0 < 0 = many in omega (arith, no)) ]);
+}
+
 module _ (row : List Edge) (i : ℕ) (d : Edge) (inside : i < length row) (old new : List ℕ) (Was Is : ℕ → Type 0) (so_far : IsReleased (take i row) old new Was Is) where
   -- the task that is next, and what the tasks wait for after it
   abbrev b : ℕ

@@ -1,7 +1,7 @@
 -- Rows of edges: one more weight, and how often a task stands in a row.
-use Rattle.std.proofs.Common.{◌≡◌, ◌≢◌, ℕ, suc, add-zero, zero-add, ◌+◌, ◌<◌, ◌≤◌, List, [], ◌∷◌, ◌++◌, length, get_or, take, cond, arith, ap, sym, append_assoc}
+use Rattle.std.proofs.Common.{◌≡◌, ◌≢◌, ℕ, suc, add-zero, zero-add, ◌+◌, ◌<◌, ◌≤◌, List, [], ◌∷◌, ◌++◌, length, get_or, take, map, cond, arith, refl, ap, sym, append_assoc}
 use Rattle.std.specs.Prelude.{nat_eq, filter}
-use Rattle.std.proofs.lemmas.List.{map-append, take_more, append-nil, length-take-le}
+use Rattle.std.proofs.lemmas.List.{map-append, map_more, take_more, append-nil, length-take-le}
 use Rattle.std.proofs.lemmas.List.Elements.{filter_more}
 use Rattle.std.proofs.lemmas.List.Sums.{count_by_more_yes, count_by_more_no, sum_by-take-le}
 use Rattle.pyr_graph.specs.declared.edge.Edge.{Edge}
@@ -53,3 +53,9 @@ pub turned_from-more : (rows : List (List Edge)) (i to : ℕ) → i < length row
 turned_from-more rows i to inside =
     let many : length (take i rows) ≡ i = length-take-le i rows (omega arith) in
     rw (take_more rows i [] inside, turned_from-push 0 (take i rows) (get_or rows i []) to, many, zero-add)
+
+-- one more row is counted
+pub counts-more : (rows : List (List Edge)) (counts new : List ℕ) (i n : ℕ) (row : List Edge) → i < length rows → row ≡ get_or rows i row → n ≡ length row
+    → counts ≡ map length (take i rows) → new ≡ counts ++ n ∷ [] → new ≡ map length (take (i + 1) rows)
+counts-more rows counts new i n row inside is many so_far pushed =
+    rw (pushed, so_far, many, map_more (λ (row : List Edge). length row) rows i row inside, ← is) refl

@@ -1,5 +1,5 @@
 -- Orders that always take the smallest task that is ready.
-use Rattle.std.proofs.Common.{◌≡◌, ◌≢◌, ℕ, zero, suc, ◌+◌, ◌<◌, inl, inr, List, [], ◌∷◌, ◌++◌, length, take, arith, sym, ◌∙◌, length-append}
+use Rattle.std.proofs.Common.{◌≡◌, ◌≢◌, ℕ, zero, suc, ◌+◌, ◌<◌, ◌≤◌, inl, inr, List, [], ◌∷◌, ◌++◌, length, take, arith, sym, ◌∙◌, length-append}
 use Rattle.std.specs.Prelude.{slice_index, Contains, All, AllPairs}
 use Rattle.std.proofs.lemmas.Bool.{cases_lt, cases_order}
 use Rattle.std.proofs.lemmas.Grind.{get_or_default_zero}
@@ -7,7 +7,7 @@ use Rattle.std.proofs.lemmas.List.{get_or_append_left, get_or-take, length-take-
 use Rattle.std.proofs.Math.Seq.{take-append_seam, get_or-append_seam}
 use Rattle.pyr_seq.specs.Walk.{IsTopological}
 use Rattle.pyr_graph.specs.Removal.{IsLeast, IsRemoved, all_before, IsReady, IsSmallestFirst}
-use Rattle.pyr_graph.proofs.Counting.{Contains-all}
+use Rattle.pyr_graph.proofs.Counting.{Contains-all, length-le_from_apart}
 
 -- one task more, the smallest that is ready
 pub IsSmallestFirst-push : (count : ℕ) (IsEdge : ℕ → ℕ → Type 0) (order : List ℕ) (t : ℕ) → IsSmallestFirst count IsEdge order
@@ -58,6 +58,10 @@ module _ (count : ℕ) (IsEdge : ℕ → ℕ → Type 0) (order : List ℕ) (fir
       let short : i < length (take j order) = rw (length-take-le j order (omega arith)) less in
       (first j inside).has.in_
       (i, short, get_or-take j order i x less ∙ (get_or_default_zero order i x i_in ∙ (sym (get_or_default_zero order i d i_in) ∙ (same ∙ get_or_default_zero order j d inside))))
+
+  -- it has no more than all tasks
+  pub length-le_from_first : length order ≤ count
+  length-le_from_first = length-le_from_apart order count apart below
 
   once : (i j : ℕ) → i < length order → j < length order → slice_index order i ≡ slice_index order j → i ≡ j
   once i j i_in j_in same = elim (cases_order i j) [

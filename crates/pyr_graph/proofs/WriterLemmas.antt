@@ -1,9 +1,9 @@
 -- The table of the writers as the tasks are gone through.
-use Rattle.std.proofs.Common.{◌≡◌, ◌≢◌, ℕ, ◌+◌, ◌<◌, ◌⊎◌, inl, inr, Bool, true, false, List, [], length, get_or, arith, refl, sym, ◌∙◌}
-use Rattle.std.specs.Prelude.{◌↔◌, if◌then◌else◌, nat_eq, Contains}
+use Rattle.std.proofs.Common.{◌≡◌, ◌≢◌, ℕ, ◌+◌, ◌<◌, ◌⊎◌, inl, inr, Bool, true, false, List, [], ◌∷◌, ◌++◌, length, get_or, arith, refl, sym, ◌∙◌}
+use Rattle.std.specs.Prelude.{◌↔◌, if◌then◌else◌, nat_eq, All, Contains}
 use Rattle.std.specs.List.{list_any}
 use Rattle.std.proofs.lemmas.Bool.{cases_Bool, cases_lt, cond-true, cond-false, lt-ltb, false_from_ne_true}
-use Rattle.std.proofs.lemmas.List.{get_or_default}
+use Rattle.std.proofs.lemmas.List.{get_or_append_left, get_or_at, get_or_default, length_push}
 use Rattle.std.proofs.lemmas.List.Elements.{All-contains, All-map}
 use Rattle.std.proofs.lemmas.List.Sums.{position_or_len_is}
 use Rattle.pyr_num.specs.declared.ids.TaskId.{TaskId}
@@ -11,10 +11,9 @@ use Rattle.pyr_num.specs.declared.ids.DatumId.{DatumId}
 use Rattle.pyr_graph.specs.declared.parts.TaskParts.{TaskParts}
 use Rattle.pyr_graph.specs.declared.writers.Writer.{Writer}
 use Rattle.pyr_graph.specs.declared.writers.Writer.TheVariants.{Missing, Only, Several}
-use Rattle.pyr_graph.specs.System.{System, HoldsItsData, datum_count, datum_numbers, task_in, task_at, writes_in, writes_of, writer_of, IsWriter}
+use Rattle.pyr_graph.specs.System.{System, datum_count, datum_numbers, task_in, writes_in, writes_of, writer_of}
 use Rattle.pyr_graph.specs.Removal.{IsLeast}
-use Rattle.pyr_graph.specs.Faults.{IsWrittenTwice, IsUnwritten}
-use Rattle.pyr_graph.specs.Tables.{joined, Describes, IsWriterIn, writer_in}
+use Rattle.pyr_graph.specs.Tables.{joined, Describes, IsWriterIn, IsWrittenTwiceIn, IsUnwrittenIn, writer_in, AreSoleWriters}
 use Rattle.pyr_graph.proofs.ListLemmas.{nat_eq-apart, Contains-tested, tested-Contains}
 
 -- the same writers are described by the same entry
@@ -87,28 +86,48 @@ AreKnown-step tasks count task old new writes is same same_len noted = record {
       | inr here ↦ (omega (arith, here), rw here held)
     ]
 
--- What the table says of a whole system.
-module _ (s : System) (table : List Writer) (full : length table ≡ datum_count s) (known : (d : ℕ) → d < datum_count s → Describes (IsWriterIn s.tasks d) (get_or table d Missing)) where
+-- the writers below this place are the only ones that the table has there
+pub record AreOnly (table : List Writer) (writers : List TaskId) (i : ℕ) : Type 0 where
+  pub full : length writers ≡ i
+  pub only : (d : ℕ) (t : TaskId) → d < i → get_or table d Missing ≡ Only (get_or writers d t)
+
+pub AreOnly-none : (table : List Writer) → AreOnly table [] 0
+AreOnly-none table = record { full = refl; only = λ d t less. absurd (omega (arith, less)) }
+
+pub AreOnly-more : (table : List Writer) (writers : List TaskId) (i : ℕ) (task : TaskId) → get_or table i Missing ≡ Only task → AreOnly table writers i
+    → AreOnly table (writers ++ task ∷ []) (i + 1)
+AreOnly-more table writers i task here so_far = record {
+  full = rw (length_push, so_far.full) refl;
+  only = λ d t less. elim (cases_lt d i) [
+    | inl before ↦ rw (get_or_append_left writers (task ∷ []) t d (rw so_far.full before)) (so_far.only d t before)
+    | inr past ↦ (
+        let same : d ≡ i = omega (arith, less, past) in
+        rw (same, get_or_at writers task [] t i so_far.full) here)
+  ];
+}
+
+-- What the table says of all tasks.
+module _ (tasks : List TaskParts) (count : ℕ) (table : List Writer) (full : length table ≡ count) (known : (d : ℕ) → d < count → Describes (IsWriterIn tasks d) (get_or table d Missing)) where
   -- two tasks write a datum exactly where the entry says so
-  twice : (d : ℕ) → d < datum_count s → get_or table d Missing ≡ Several → IsWrittenTwice s d
+  twice : (d : ℕ) → d < count → get_or table d Missing ≡ Several → IsWrittenTwiceIn tasks d
   twice d d_in is = rw is at (known d d_in)
 
-  not_twice : (d : ℕ) (w : Writer) → Describes (IsWriterIn s.tasks d) w → w ≢ Several → IsWrittenTwice s d → ⊥
+  not_twice : (d : ℕ) (w : Writer) → Describes (IsWriterIn tasks d) w → w ≢ Several → IsWrittenTwiceIn tasks d → ⊥
   not_twice d Missing none other (a, b, apart, is_a, is_b) = none a is_a
   not_twice d (Only u) (is, only) other (a, b, apart, is_a, is_b) = apart (only a is_a ∙ sym (only b is_b))
   not_twice d Several is other written = other refl
 
   -- no task writes it exactly where the entry says so
-  unwritten : (d : ℕ) → d < datum_count s → get_or table d Missing ≡ Missing → IsUnwritten s d
+  unwritten : (d : ℕ) → d < count → get_or table d Missing ≡ Missing → IsUnwrittenIn tasks count d
   unwritten d d_in is = (d_in, rw is at (known d d_in))
 
-  not_unwritten : (d : ℕ) (w : Writer) → Describes (IsWriterIn s.tasks d) w → w ≢ Missing → IsUnwritten s d → ⊥
+  not_unwritten : (d : ℕ) (w : Writer) → Describes (IsWriterIn tasks d) w → w ≢ Missing → IsUnwrittenIn tasks count d → ⊥
   not_unwritten d Missing none other is = other refl
   not_unwritten d (Only u) (is, only) other (d_in, none) = none u.0 is
   not_unwritten d Several (a, b, apart, is_a, is_b) other (d_in, none) = none a is_a
 
   -- the first such entry is the smallest such datum
-  pub least_twice : (d : ℕ) → d < length table → get_or table d Several ≡ Several → ((e : ℕ) (w : Writer) → e < d → get_or table e w ≢ Several) → IsLeast (IsWrittenTwice s) d
+  pub least_twice : (d : ℕ) → d < length table → get_or table d Several ≡ Several → ((e : ℕ) (w : Writer) → e < d → get_or table e w ≢ Several) → IsLeast (IsWrittenTwiceIn tasks) d
   least_twice d d_in is before = record {
     has = twice d (omega (arith, full)) (get_or_default table d Missing Several d_in ∙ is);
     least = λ m written. elim (cases_lt m d) [
@@ -117,7 +136,7 @@ module _ (s : System) (table : List Writer) (full : length table ≡ datum_count
     ];
   }
 
-  pub least_unwritten : (d : ℕ) → d < length table → get_or table d Missing ≡ Missing → ((e : ℕ) (w : Writer) → e < d → get_or table e w ≢ Missing) → IsLeast (IsUnwritten s) d
+  pub least_unwritten : (d : ℕ) → d < length table → get_or table d Missing ≡ Missing → ((e : ℕ) (w : Writer) → e < d → get_or table e w ≢ Missing) → IsLeast (IsUnwrittenIn tasks count) d
   least_unwritten d d_in is before = record {
     has = unwritten d (omega (arith, full)) is;
     least = λ m none. elim (cases_lt m d) [
@@ -127,30 +146,27 @@ module _ (s : System) (table : List Writer) (full : length table ≡ datum_count
   }
 
   -- where there is no such entry, there is no such datum
-  pub none_twice : HoldsItsData s → ((e : ℕ) (w : Writer) → e < length table → get_or table e w ≢ Several) → (d : ℕ) → IsWrittenTwice s d → ⊥
+  pub none_twice : ((t : ℕ) → All (λ d. d.0 < count) (task_in tasks t).writes) → ((e : ℕ) (w : Writer) → e < length table → get_or table e w ≢ Several) → (d : ℕ) → IsWrittenTwiceIn tasks d → ⊥
   none_twice holds none d (a, b, apart, is_a, is_b) =
-      let d_in : d < datum_count s = All-contains (λ d. d < datum_count s) (writes_of s a) d (All-map (λ n. n < datum_count s) (λ (d : DatumId). d.0) (task_at s a).writes (holds.writes a)) is_a.1 in
+      let d_in : d < count = All-contains (λ d. d < count) (writes_in tasks a) d (All-map (λ n. n < count) (λ (d : DatumId). d.0) (task_in tasks a).writes (holds a)) is_a.1 in
       not_twice d (get_or table d Missing) (known d d_in) (none d Missing (omega (arith, full, d_in))) (a, b, apart, is_a, is_b)
 
-  pub none_unwritten : ((e : ℕ) (w : Writer) → e < length table → get_or table e w ≢ Missing) → (d : ℕ) → IsUnwritten s d → ⊥
-  none_unwritten none d (d_in, is) = not_unwritten d (get_or table d Missing) (known d d_in) (none d Missing (omega (arith, full))) (d_in, is)
-
   -- the only writers
-  module _ (writers : List TaskId) (only : (d : ℕ) (t : TaskId) → d < length table → get_or table d Missing ≡ Only (get_or writers d t)) where
-    pub is_writer : (d : ℕ) → d < datum_count s → IsWriter s d (writer_in writers d)
-    is_writer d d_in = let is = rw (only d (record { 0 = 0 }) (omega (arith, full))) at (known d d_in) in is.0
+  pub are_sole : (writers : List TaskId) → length writers ≡ length table → ((d : ℕ) (t : TaskId) → d < length table → get_or table d Missing ≡ Only (get_or writers d t)) → AreSoleWriters tasks count writers
+  are_sole writers many only = record {
+    full = many ∙ full;
+    writes = λ d d_in. (let is = rw (only d (record { 0 = 0 }) (omega (arith, full))) at (known d d_in) in is.0);
+    alone = λ d t d_in writes. (let is = rw (only d (record { 0 = 0 }) (omega (arith, full))) at (known d d_in) in is.1 t writes);
+  }
 
-    pub only_writer : (d t : ℕ) → d < datum_count s → IsWriter s d t → t ≡ writer_in writers d
-    only_writer d t d_in writes = let is = rw (only d (record { 0 = 0 }) (omega (arith, full))) at (known d d_in) in is.1 t writes
-
-    -- are the first tasks that write the data
-    pub writer_in-writer_of : (d : ℕ) → d < datum_count s → writer_in writers d ≡ writer_of s d
-    writer_in-writer_of d d_in =
-        let w = writer_in writers d in
-        let writes : TaskParts → Bool = λ t. list_any (nat_eq d) (datum_numbers t.writes) in
-        let (w_in, held) = is_writer d d_in in
-        let place = position_or_len_is writes s.tasks w (record { cost = 0; reads = []; writes = [] }) (omega (arith, w_in))
-        (λ k less. false_from_ne_true (list_any (nat_eq d) (writes_of s k)) (λ found. let same = only_writer d k d_in (omega (arith, less, w_in), Contains-tested d (writes_of s k) found) in omega (arith, same, less)))
-        (λ inside. tested-Contains d (writes_of s w) held) in
-        let test = lt-ltb w (length s.tasks) w_in in
-        sym (rw (place, test))
+-- Sole writers are the first tasks that write the data.
+pub writer_in-writer_of : (s : System) (writers : List TaskId) → AreSoleWriters s.tasks (datum_count s) writers → (d : ℕ) → d < datum_count s → writer_in writers d ≡ writer_of s d
+writer_in-writer_of s writers are d d_in =
+    let w = writer_in writers d in
+    let writes : TaskParts → Bool = λ t. list_any (nat_eq d) (datum_numbers t.writes) in
+    let (w_in, held) = are.writes d d_in in
+    let place = position_or_len_is writes s.tasks w (record { cost = 0; reads = []; writes = [] }) (omega (arith, w_in))
+    (λ k less. false_from_ne_true (list_any (nat_eq d) (writes_of s k)) (λ found. let same = are.alone d k d_in (omega (arith, less, w_in), Contains-tested d (writes_of s k) found) in omega (arith, same, less)))
+    (λ inside. tested-Contains d (writes_of s w) held) in
+    let test = lt-ltb w (length s.tasks) w_in in
+    sym (rw (place, test))

@@ -1,14 +1,14 @@
 -- What the private steps of building a graph leave. No public clause cites this.
-use Rattle.std.specs.Prelude.{◌≡◌, ◌≢◌, ℕ, ◌+◌, ◌<◌, if◌then◌else◌, List, [], ◌∷◌, ◌++◌, nat_eq, All, Any, AllPairs, Contains, length, map, filter, sum_by, count_by, slice_index, slice_index_or}
+use Rattle.std.specs.Prelude.{◌≡◌, ◌≢◌, ℕ, ◌+◌, ◌<◌, ◌≤◌, if◌then◌else◌, List, [], ◌∷◌, ◌++◌, nat_eq, All, Any, AllPairs, Contains, length, map, filter, sum_by, count_by, slice_index, slice_index_or}
 use Rattle.pyr_num.specs.declared.ids.TaskId.{TaskId}
 use Rattle.pyr_graph.specs.declared.edge.Edge.{Edge}
 use Rattle.pyr_graph.specs.declared.parts.TaskParts.{TaskParts}
 use Rattle.pyr_graph.specs.declared.fault.GraphFault.{GraphFault}
-use Rattle.pyr_graph.specs.declared.fault.GraphFault.TheVariants.{Cycle, Memory}
+use Rattle.pyr_graph.specs.declared.fault.GraphFault.TheVariants.{TwoWriters, NoWriter, Cycle, Memory}
 use Rattle.pyr_graph.specs.declared.writers.Writer.{Writer}
 use Rattle.pyr_graph.specs.declared.writers.Writer.TheVariants.{Missing, Only, Several}
 use Rattle.pyr_graph.specs.System.{writes_in, task_numbers}
-use Rattle.pyr_graph.specs.Removal.{IsLeft, IsFoundCycle}
+use Rattle.pyr_graph.specs.Removal.{IsLeast, IsLeft, IsFoundCycle, IsSmallestFirst}
 
 -- the writer of a datum, once this task is known to write it too
 abbrev pub joined : Writer → TaskId → Writer
@@ -26,6 +26,15 @@ Describes Writes Several = (a : ℕ) × (b : ℕ) × (a ≢ b) × Writes a × Wr
 abbrev pub IsWriterIn : List TaskParts → ℕ → ℕ → Type 0
 IsWriterIn tasks d t = (t < length tasks) × Contains (writes_in tasks t) d
 
+-- two tasks of this list write the datum
+abbrev pub IsWrittenTwiceIn : List TaskParts → ℕ → Type 0
+IsWrittenTwiceIn tasks d =
+    (a : ℕ) × (b : ℕ) × (a ≢ b) × IsWriterIn tasks d a × IsWriterIn tasks d b
+
+-- none of them writes the datum, which is one of so many
+abbrev pub IsUnwrittenIn : List TaskParts → ℕ → ℕ → Type 0
+IsUnwrittenIn tasks count d = (d < count) × ((t : ℕ) → IsWriterIn tasks d t → ⊥)
+
 -- an edge to or from the task
 abbrev pub edge_of : ℕ → ℕ → Edge
 edge_of t weight = record { task = record { 0 = t }; weight = weight }
@@ -40,6 +49,22 @@ added (e ∷ f ∷ rest) t weight = e ∷ added (f ∷ rest) t weight
 -- the task that writes the datum, by the table of the writers
 abbrev pub writer_in : List TaskId → ℕ → ℕ
 writer_in writers d = (slice_index_or writers d (record { 0 = 0 })).0
+
+-- the writer of each datum, which no other task writes
+pub record AreSoleWriters (tasks : List TaskParts) (count : ℕ) (writers : List TaskId) : Type 0
+  where
+    pub full : length writers ≡ count
+    pub writes : (d : ℕ) → d < count → IsWriterIn tasks d (writer_in writers d)
+    pub alone : (d t : ℕ) → d < count → IsWriterIn tasks d t → t ≡ writer_in writers d
+
+-- Why some datum has no sole writer: the first that two tasks write, or else the first that none
+-- writes. Want of memory may come at any point.
+abbrev pub IsWriterCause : List TaskParts → ℕ → GraphFault → Type 0
+IsWriterCause tasks count (TwoWriters datum) = IsLeast (IsWrittenTwiceIn tasks) datum.0
+IsWriterCause tasks count (NoWriter datum) =
+    ((d : ℕ) → IsWrittenTwiceIn tasks d → ⊥) × IsLeast (IsUnwrittenIn tasks count) datum.0
+IsWriterCause tasks count Memory = Unit {0}
+IsWriterCause tasks count _ = ⊥
 
 -- the data of the list that the task writes
 abbrev pub from_writer : (ℕ → ℕ) → ℕ → List ℕ → List ℕ
@@ -86,6 +111,17 @@ AreOpposite forth back =
 -- a task that still waits for a predecessor
 abbrev pub IsWaiting : List ℕ → ℕ → Type 0
 IsWaiting pending t = 0 < slice_index pending t
+
+-- The tasks were taken out one after another, each time the smallest that was ready, until none was.
+-- Where some are left, each of them waits for one that is left too.
+pub record AreTakenOut (rows : List (List Edge)) (order pending : List ℕ) : Type 0 where
+  pub full : length pending ≡ length rows
+  pub most : length order ≤ length rows
+  pub first : IsSmallestFirst (length rows) (Precedes rows) order
+  pub some_waits : length order < length rows → (t : ℕ) × IsWaiting pending t
+  pub stuck : (t : ℕ) → IsWaiting pending t
+      → (a : ℕ) × IsWaiting pending a × Precedes rows a t
+  pub left : (t : ℕ) → IsLeft (length rows) (Precedes rows) t → IsWaiting pending t
 
 -- Why there is no order: the cycle of the walk. Want of memory may come at any point.
 abbrev pub IsCause : ℕ → (ℕ → ℕ → Type 0) → GraphFault → Type 0

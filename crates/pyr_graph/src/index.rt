@@ -2,14 +2,14 @@
 
 ghost use Rattle.std.specs.Prelude.{◌≡◌, IfOk, OnOk, IfErr};
 ghost use Rattle.pyr_graph.specs.System.{system_of, HoldsItsData};
-ghost use Rattle.pyr_graph.specs.Faults.{IsFault, IsSound};
+ghost use Rattle.pyr_graph.specs.Faults.{IsDistinct, IsFault, IsSound};
 ghost use Rattle.pyr_graph.specs.WholeGraph.{IsGraph, IsIndex};
 
 use crate::edges::{successors_of, turned_rows};
 use crate::limits::passed_limit;
 use crate::order::order_of;
 use crate::repeats::duplicate;
-use crate::writers::{Writer, first_with, only_writers, writers_of};
+use crate::writers::sole_writers;
 use crate::{DatumParts, Edge, GraphFault, TaskParts};
 use pyr_num::{DatumId, TaskId, TaskList};
 use sqlite_items::Items;
@@ -42,23 +42,8 @@ impl Index {
         ensures sound { OnOk result (IsSound (system_of tasks.now datums.now prints.now)) }
         ensures fault { IfErr result (IsFault (system_of tasks.now datums.now prints.now)) }
     {
-        if tasks.is_empty() {
-            return Err(GraphFault::NoTask);
-        }
-        if let Some(which) = passed_limit(tasks, datums, prints) {
-            return Err(GraphFault::Limit { which });
-        }
-        if let Some(datum) = duplicate(alloc, tasks, prints)? {
-            return Err(GraphFault::Duplicate { datum });
-        }
-        let table = writers_of(alloc, tasks, datums.len())?;
-        if let Some(datum) = first_with(&table, Writer::Several) {
-            return Err(GraphFault::TwoWriters { datum });
-        }
-        if let Some(datum) = first_with(&table, Writer::Missing) {
-            return Err(GraphFault::NoWriter { datum });
-        }
-        let writers = only_writers(alloc, &table)?;
+        check_parts(alloc, tasks, datums, prints)?;
+        let writers = sole_writers(alloc, tasks, datums.len())?;
         let successors = successors_of(alloc, tasks, datums, writers.as_slice())?;
         let predecessors = turned_rows(alloc, &successors)?;
         let order = order_of(alloc, &predecessors, &successors)?;
@@ -69,4 +54,26 @@ impl Index {
             order,
         })
     }
+}
+
+/// Refuses parts without a task, with a number past its limit, or with a datum twice in one list.
+fn check_parts(
+    alloc: Global,
+    tasks: &[TaskParts],
+    datums: &[DatumParts],
+    prints: &[DatumId],
+) -> Result<(), GraphFault>
+    ensures distinct { OnOk result (IsDistinct (system_of tasks.now datums.now prints.now)) }
+    ensures fault { IfErr result (IsFault (system_of tasks.now datums.now prints.now)) }
+{
+    if tasks.is_empty() {
+        return Err(GraphFault::NoTask);
+    }
+    if let Some(which) = passed_limit(tasks, datums, prints) {
+        return Err(GraphFault::Limit { which });
+    }
+    if let Some(datum) = duplicate(alloc, tasks, prints)? {
+        return Err(GraphFault::Duplicate { datum });
+    }
+    Ok(())
 }

@@ -5,7 +5,7 @@ ghost use Rattle.std.specs.Ordering.{nat_cmp};
 ghost use Rattle.std.specs.BTreeSet.{contains};
 ghost use Rattle.pyr_graph.specs.System.{task_numbers};
 ghost use Rattle.pyr_graph.specs.Removal.{IsSmallestFirst};
-ghost use Rattle.pyr_graph.specs.Tables.{AreRows, AreOpposite, Precedes, times_in, IsCause};
+ghost use Rattle.pyr_graph.specs.Tables.{AreRows, AreOpposite, AreTakenOut, Precedes, times_in, IsCause};
 
 use crate::cycle::walk_back;
 use crate::{Edge, GraphFault};
@@ -65,6 +65,29 @@ fn release(
     Ok(())
 }
 
+/// Takes out the smallest task that waits for none, again and again, until no such task is left.
+fn take_out(
+    alloc: Global,
+    predecessors: &[Items<Edge>],
+    successors: &[Items<Edge>],
+    pending: &mut [u32],
+) -> Result<TaskList, AllocError>
+    requires few { length predecessors.now < 2 ^ 32 }
+    requires rows { AreRows (length predecessors.now) predecessors.now }
+    requires back { AreRows (length predecessors.now) successors.now }
+    requires opposite { AreOpposite successors.now predecessors.now }
+    requires counts { pending.old ≡ map length predecessors.now }
+    ensures { IfOk result (λ order. AreTakenOut predecessors.now (task_numbers order) pending.new) }
+{
+    let mut order = Vec::with_capacity(alloc, predecessors.len())?;
+    let mut ready = ready_tasks(alloc, pending)?;
+    while let Some(task) = ready.pop_first() {
+        order.push(TaskId(task))?;
+        release(successors[task as usize].as_slice(), pending, &mut ready)?;
+    }
+    Ok(Items::from_vec(order))
+}
+
 /// The order that always takes the smallest task whose predecessors are all out, or a cycle.
 pub(crate) fn order_of(
     alloc: Global,
@@ -81,19 +104,10 @@ pub(crate) fn order_of(
     ensures cause { IfErr result (IsCause (length predecessors.now) (Precedes predecessors.now)) }
 {
     let mut pending = counts_of(alloc, predecessors)?;
-    let mut ready = ready_tasks(alloc, &pending)?;
-    let mut order = Vec::with_capacity(alloc, predecessors.len())?;
-    for _step in 0..predecessors.len() {
-        let Some(task) = ready.pop_first() else {
-            let tasks = walk_back(alloc, predecessors, &pending)?;
-            return Err(GraphFault::Cycle { tasks });
-        };
-        order.push(TaskId(task))?;
-        release(
-            successors[task as usize].as_slice(),
-            &mut pending,
-            &mut ready,
-        )?;
+    let order = take_out(alloc, predecessors, successors, &mut pending)?;
+    if order.len() < predecessors.len() {
+        let tasks = walk_back(alloc, predecessors, &pending)?;
+        return Err(GraphFault::Cycle { tasks });
     }
-    Ok(Items::from_vec(order))
+    Ok(order)
 }

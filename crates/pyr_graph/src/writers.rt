@@ -1,15 +1,15 @@
 // The writer of each datum.
 
-ghost use Rattle.std.specs.Prelude.{◌≡◌, ◌^◌, ◌≢◌, ℕ, ◌<◌, ◌≤◌, if◌then◌else◌, nat_eq, All, IfOk, IfSome, IfNone, length, slice_index_or};
+ghost use Rattle.std.specs.Prelude.{◌≡◌, ◌^◌, ◌≢◌, ℕ, ◌<◌, ◌≤◌, if◌then◌else◌, nat_eq, All, IfOk, IfErr, IfSome, IfNone, length, slice_index_or};
 ghost use Rattle.std.specs.List.{list_any};
 ghost use Rattle.pyr_num.specs.declared.ids.TaskId.{TaskId};
 ghost use Rattle.pyr_graph.specs.System.{datum_numbers, task_in};
 ghost use Rattle.pyr_graph.specs.Removal.{IsLeast};
-ghost use Rattle.pyr_graph.specs.Tables.{joined, Describes, IsWriterIn};
+ghost use Rattle.pyr_graph.specs.Tables.{joined, Describes, IsWriterIn, AreSoleWriters, IsWriterCause};
 ghost use Rattle.pyr_graph.specs.declared.writers.Writer.{Writer};
 ghost use Rattle.pyr_graph.specs.declared.writers.Writer.TheVariants.{Missing, Only, Several};
 
-use crate::TaskParts;
+use crate::{GraphFault, TaskParts};
 use pyr_num::{DatumId, TaskId};
 use sqlite_items::Items;
 use std::alloc::{AllocError, Global};
@@ -53,11 +53,7 @@ fn note(table: &mut [Writer], task: TaskId, writes: &[DatumId])
 }
 
 /// What is known of the writers of each datum.
-pub(crate) fn writers_of(
-    alloc: Global,
-    tasks: &[TaskParts],
-    count: usize,
-) -> Result<Vec<Writer>, AllocError>
+fn writers_of(alloc: Global, tasks: &[TaskParts], count: usize) -> Result<Vec<Writer>, AllocError>
     requires few { length tasks.now < 2 ^ 32 }
     requires holds { (t : ℕ) → All (λ d. d.0 < count) (task_in tasks.now t).writes }
     ensures full { IfOk result (λ table. length table.items ≡ count) }
@@ -72,7 +68,7 @@ pub(crate) fn writers_of(
 }
 
 /// The first datum with this entry in the table.
-pub(crate) fn first_with(table: &[Writer], entry: Writer) -> Option<DatumId>
+fn first_with(table: &[Writer], entry: Writer) -> Option<DatumId>
     requires { length table.now < 2 ^ 32 }
     ensures found { IfSome result (λ d. (d.0 < length table.now)
         × (slice_index_or table.now d.0 entry ≡ entry)) }
@@ -90,7 +86,7 @@ pub(crate) fn first_with(table: &[Writer], entry: Writer) -> Option<DatumId>
 }
 
 /// The writers, where each datum has one.
-pub(crate) fn only_writers(alloc: Global, table: &[Writer]) -> Result<Items<TaskId>, AllocError>
+fn only_writers(alloc: Global, table: &[Writer]) -> Result<Items<TaskId>, AllocError>
     requires some { (d : ℕ) (w : Writer) → d < length table.now
         → slice_index_or table.now d w ≢ Missing }
     requires one { (d : ℕ) (w : Writer) → d < length table.now
@@ -107,4 +103,26 @@ pub(crate) fn only_writers(alloc: Global, table: &[Writer]) -> Result<Items<Task
         writers.push(task)?;
     }
     Ok(Items::from_vec(writers))
+}
+
+/// The writer of each datum, where each datum has one.
+pub(crate) fn sole_writers(
+    alloc: Global,
+    tasks: &[TaskParts],
+    count: usize,
+) -> Result<Items<TaskId>, GraphFault>
+    requires few { length tasks.now < 2 ^ 32 }
+    requires count { count < 2 ^ 32 }
+    requires holds { (t : ℕ) → All (λ d. d.0 < count) (task_in tasks.now t).writes }
+    ensures sole { IfOk result (AreSoleWriters tasks.now count) }
+    ensures cause { IfErr result (IsWriterCause tasks.now count) }
+{
+    let table = writers_of(alloc, tasks, count)?;
+    if let Some(datum) = first_with(&table, Writer::Several) {
+        return Err(GraphFault::TwoWriters { datum });
+    }
+    if let Some(datum) = first_with(&table, Writer::Missing) {
+        return Err(GraphFault::NoWriter { datum });
+    }
+    Ok(only_writers(alloc, &table)?)
 }

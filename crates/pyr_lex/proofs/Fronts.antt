@@ -159,6 +159,14 @@ front_only bytes t h =
           subst F is.2 (symbol_only bytes is.0 is.1))
     ]
 
+-- where no run begins, the symbol at the front is read
+pub symbol_is_read : (bytes text : List ℕ) (s : SymbolKind) → prefix_len is_part bytes ≤ 0 → Some s ≡ front_symbol bytes → text ≡ symbol_text s
+    → Some (Symbol s, length text) ≡ front_token bytes
+unfolding front_token
+symbol_is_read bytes text s none front is =
+    let no : ltb 0 (prefix_len is_part bytes) ≡ false = le-ltb 0 (prefix_len is_part bytes) none in
+    rw (no, ← front, is) refl
+
 -- A token's text begins with a byte that is neither blank nor `#`.
 pub record Starts (text : List ℕ) : Type 0 where
   pub first : ℕ

@@ -1,5 +1,5 @@
 -- Tokens written out, with one space or nothing between them.
-use Rattle.std.specs.Prelude.{ℕ, Bool, false, true, ◌||◌, if◌then◌else◌, List, [], ◌∷◌, ◌++◌, IsTrue}
+use Rattle.std.specs.Prelude.{ℕ, Bool, false, true, ◌||◌, if◌then◌else◌, Option, Some, None, List, [], ◌∷◌, ◌++◌, IsTrue}
 use Rattle.pyr_lex.specs.declared.token.Token.{Token}
 use Rattle.pyr_lex.specs.declared.token.Token.TheVariants.{Symbol}
 use Rattle.pyr_lex.specs.declared.symbol.Symbol.TheVariants.{ParenOpen, ParenClose, BracketOpen, BracketClose}
@@ -40,6 +40,11 @@ is_tight_before t = false
 -- the canonical spacing: an opening bracket touches what follows, and `)`, `[` and `]` what precedes
 abbrev pub is_tight : Token → Token → Bool
 is_tight t u = is_tight_behind t || is_tight_before u
+
+-- what stands before a token: nothing at the front of the line, else the gap behind the last token
+abbrev pub gap_before : Option Token → Token → List ℕ
+gap_before None u = []
+gap_before (Some t) u = gap (is_tight t u)
 
 -- the canonical text of a line with these tokens, without its line feed
 abbrev pub canonical_line : List Token → List ℕ

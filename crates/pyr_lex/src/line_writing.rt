@@ -1,7 +1,7 @@
 // Tokens written out as canonical text.
 ghost use Rattle.std.specs.Prelude.{◌≡◌, [], ◌∷◌, ◌++◌, OnOk};
 ghost use Rattle.pyr_lex.specs.Token.{IsToken, AreTokens, token_text};
-ghost use Rattle.pyr_lex.specs.Spacing.{is_tight, is_tight_behind, is_tight_before, canonical_line};
+ghost use Rattle.pyr_lex.specs.Spacing.{is_tight, is_tight_behind, is_tight_before, gap_before, canonical_line};
 
 use crate::decimals::put_decimal;
 use crate::{Symbol, Token};
@@ -15,15 +15,23 @@ pub fn write_line(out: &mut Vec<u8>, tokens: &[Token]) -> Result<(), AllocError>
 {
     let mut last: Option<Token> = None;
     for token in tokens {
-        if let Some(before) = last
-            && !is_tight(before, *token)
-        {
-            out.push(b' ')?;
-        }
+        write_gap(out, last, *token)?;
         write_token(out, *token)?;
         last = Some(*token);
     }
     out.push(b'\n')?;
+    Ok(())
+}
+
+// The space before a token, where one stands between it and the last one.
+fn write_gap(out: &mut Vec<u8>, last: Option<Token>, token: Token) -> Result<(), AllocError>
+    ensures { OnOk result (out.new.items ≡ out.old.items ++ gap_before last token) }
+{
+    if let Some(before) = last
+        && !is_tight(before, token)
+    {
+        out.push(b' ')?;
+    }
     Ok(())
 }
 

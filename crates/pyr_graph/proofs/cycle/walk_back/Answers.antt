@@ -1,9 +1,9 @@
-use Rattle.std.proofs.Common.{◌≡◌, ◌<◌, length, get_or, arith, sym, ◌∙◌, None}
+use Rattle.std.proofs.Common.{◌≡◌, ◌<◌, length, get_or, arith, rules, sym, ◌∙◌, None}
 use Rattle.std.proofs.lemmas.List.{get_or_read, drop-map, map_push, length-map}
 use Rattle.pyr_num.specs.declared.ids.TaskId.{TaskId}
 use Rattle.pyr_graph.specs.System.{task_numbers}
 use Rattle.pyr_graph.specs.Tables.{IsWaiting, Precedes}
-use Rattle.pyr_graph.proofs.TrailLemmas.{IsTrail-step, IsTrail-short, IsFoundCycle-from_trail, IsPlaced-step, waiting_in}
+use Rattle.pyr_graph.proofs.TrailLemmas.{IsTrail-start, IsTrail-step, IsTrail-short, IsFoundCycle-from_trail, IsPlaced-start, IsPlaced-step, waiting_in}
 use Rattle.pyr_graph.proofs.cycle.walk_back.Goals as goal
 use Rattle.pyr_graph.proofs.cycle.walk_back.Goals.{After-index}
 
@@ -42,3 +42,26 @@ loop-first-preserved c =
       IsTrail-step _ _ _ _ _ new c.loop-first.invariant.0 c.step_back-task.ensures,
       IsPlaced-step _ _ _ _ (task_in at) c.loop-first.invariant.1,
     )
+
+pub first_waiting-task-requires : goal.first_waiting-task-requires
+first_waiting-task-requires c = record { few = c.requires.few; some = c.requires.some }
+
+pub step_back-task-requires : goal.step_back-task-requires
+step_back-task-requires c = record {
+  rows = c.requires.rows;
+  task = task_in (goal.at.step_back-task-requires c).After-index;
+  some = c.requires.stuck c.loop-first.task.0 c.loop-first.invariant.0.stands;
+}
+
+pub loop-first-init : goal.loop-first-init
+loop-first-init c =
+    let fresh = c.in_ok-places.ensures.items_if_clones_equal (search rules) in
+    rw c.new-trail.ensures.items (IsTrail-start (IsWaiting c.args.pending.now) (Precedes c.args.predecessors.now) c.first_waiting-task.result.0 c.first_waiting-task.ensures, rw fresh (IsPlaced-start (length c.args.pending.now)))
+
+pub index-requires : goal.index-requires
+index-requires c =
+    let inside = waiting_in c.args.pending.now c.loop-first.task.0 c.loop-first.invariant.0.stands in
+    omega (arith, inside, c.loop-first.invariant.1.full, c.loop-first.places.ok)
+
+pub index_mut-requires : goal.index_mut-requires
+index_mut-requires c = omega (arith, task_in (goal.at.index_mut-requires c).After-index, c.loop-first.invariant.1.full, c.loop-first.places.ok)

@@ -1,10 +1,10 @@
-use Rattle.std.proofs.Common.{◌≡◌, ℕ, get_or, arith, refl, max, ◌∙◌, ap}
+use Rattle.std.proofs.Common.{◌≡◌, ◌≤◌, ℕ, length, get_or, arith, rules, refl, max, ◌∙◌, ap}
 use Rattle.std.proofs.lemmas.List.{get_or_read}
 use Rattle.std.specs.Prelude.{slice_index}
 use Rattle.pyr_levels.specs.declared.placed.Placed.{Placed}
 use Rattle.pyr_levels.specs.Partial.{clusters_of}
 use Rattle.pyr_levels.proofs.LevelledLemmas.{IsLevelled-small, seen-few}
-use Rattle.pyr_levels.proofs.PlacedLemmas.{IsPlacedTo-step, placed-bound, placed-task, cluster-opened}
+use Rattle.pyr_levels.proofs.PlacedLemmas.{IsPlacedTo-start, IsPlacedTo-step, IsPlacedTo-all, placed-bound, placed-task, cluster-opened}
 use Rattle.pyr_levels.proofs.forward.examined_levels.Goals as goal
 use Rattle.pyr_levels.proofs.forward.examined_levels.Goals.{After-from}
 
@@ -61,3 +61,22 @@ loop-one-preserved c =
     let arrives = rw (c.deref.ensures.value, c.placed-one-items.ensures) at c.latest_arrival-latest.ensures in
     rw (c.from.ensures, c.cost.ensures, c.placed-one-items.ensures)
     (IsPlacedTo-step c.args.graph.now c.args.partial.now c.well_formed-2.ensures.limits c.requires c.loop-one.one-index none _ test refl c.loop-one.levels.items c.loop-one.ends.items _ _ c.loop-one.invariant arrives level)
+
+pub loop-one-init : goal.loop-one-init
+loop-one-init c =
+    let levels = c.in_ok-levels.ensures.items_if_clones_equal (search rules) in
+    let ends = c.in_ok-ends.ensures.items_if_clones_equal (search rules) in
+    rw (levels, ends, c.task_count.ensures, c.opened.ensures) (IsPlacedTo-start c.args.graph.now c.args.partial.now)
+
+pub index-requires : goal.index-requires
+unfolding none
+index-requires c =
+    let test = rw c.placed-one-items.ensures at c.loop-one-test.true in
+    let opened = cluster-opened c.args.graph.now c.args.partial.now c.well_formed-2.ensures.limits c.requires c.loop-one.one-index none (get_or c.args.partial.now.placed c.loop-one.one-index none) test refl in
+    rw c.placed-one-items.ensures (omega (arith, opened, c.loop-one.invariant.full, c.loop-one.ends.ok))
+
+pub returns : goal.returns
+returns c =
+    let past : length c.args.partial.now.placed ≤ c.loop-one.one-index = rw c.placed-one-items.ensures at c.loop-one-test.false in
+    let most : c.loop-one.one-index ≤ length c.args.partial.now.placed = rw c.placed-one-items.ensures at c.loop-one.auto.one-index-end in
+    IsPlacedTo-all _ _ _ _ _ (omega (arith, past, most)) c.loop-one.invariant
