@@ -1,10 +1,9 @@
 -- Where the first fault of code can stand, and what that says of the row of its task.
-use Rattle.std.proofs.Common.{◌≡◌, ℕ, ◌+◌, ◌<◌, ◌≤◌, ◌==◌, Bool, true, false, not, List, [], ◌∷◌, ◌++◌, map, length, take, ◌⊎◌, inl, inr, refl, sym, ap, ◌∙◌, arith}
+use Rattle.std.proofs.Common.{◌≡◌, ℕ, ◌+◌, ◌<◌, ◌≤◌, ◌==◌, Bool, true, false, not, List, [], ◌∷◌, ◌++◌, map, ◌⊎◌, inl, inr, refl, sym, ap, ◌∙◌, subst, arith}
 use Rattle.std.specs.Prelude.{Option, Some, None, if◌then◌else◌}
 use Rattle.std.specs.Option.{option_or, option_map}
 use Rattle.std.proofs.lemmas.Bool.{eq-eqb, ne_eqb}
 use Rattle.std.proofs.lemmas.Option.{none-some, same_Some}
-use Rattle.std.proofs.lemmas.List.{map_more}
 use Rattle.pyr_code.specs.declared.op.Op.{Op as OpValue}
 use Rattle.pyr_code.specs.Seen.{code_of}
 use Rattle.pyr_code.specs.Verified.{ShapedCode}
@@ -18,11 +17,14 @@ use Rattle.pyr_code.specs.Height.{height_after, height_after_op}
 use Rattle.pyr_code.specs.Fault.{Visit, Before, EndOf, op_visits, code_visits, visits, kind_before, fault_at, first_among, first_fault}
 use Rattle.pyr_bundle.specs.declared.raw_bundle.RawBundle.{RawBundle}
 use Rattle.pyr_bundle.specs.declared.raw_task.RawTask.{RawTask}
+use Rattle.pyr_bundle.specs.declared.bundle_fault.BundleFault.{BundleFault}
+use Rattle.pyr_bundle.specs.declared.bundle_fault.BundleFault.TheVariants.{Law as LawFault, Memory}
+use Rattle.pyr_bundle.specs.Tables.{IsCodeFault}
 use Rattle.pyr_bundle.specs.Law.{IsKeptBefore, IsFirstBreach}
 use Rattle.pyr_bundle.specs.Raw.{task_count, task_in, shape_of, tree_of}
 use Rattle.pyr_bundle.specs.Parts.{datum_id, verified_code_of, bundle_task_of}
-use Rattle.pyr_bundle.specs.declared.bundle_task.BundleTask.{BundleTask}
 use Rattle.pyr_num.specs.declared.ids.DatumId.{DatumId}
+use Rattle.pyr_bundle.specs.Faults.{IsBroken}
 use Rattle.pyr_bundle.specs.Laws.{is_fault_at, code_fault_of, codes}
 use Rattle.pyr_bundle.proofs.Scans.{before_row, before_upto}
 
@@ -135,15 +137,20 @@ pub code_is : (task : RawTask) (code : ShapedCode) (shape : Shape) (ops lent : L
 code_is task code shape ops lent s o l e =
     e ∙ ap (λ (x : Shape). record { ops = ops; shape = x }) s ∙ ap (λ (x : List OpValue). record { ops = x; shape = shape_of task }) (o ∙ l)
 
--- one more checked task
-pub tasks_more : (tasks : List RawTask) (t : ℕ) (task : RawTask) (made new : List BundleTask) (code : ShapedCode) (reads writes : List DatumId) (rs ws : List ℕ) → t < length tasks → task_in tasks t ≡ task →
-    code ≡ verified_code_of task → reads ≡ map datum_id rs → rs ≡ task.reads → writes ≡ map datum_id ws → ws ≡ task.writes →
-    made ≡ map bundle_task_of (take t tasks) → new ≡ made ++ record { reads = reads; writes = writes; code = code } ∷ [] → new ≡ map bundle_task_of (take (t + 1) tasks)
-tasks_more tasks t task made new code reads writes rs ws k is c r r' w w' m n =
-    let one : record { reads = reads; writes = writes; code = code } ≡ bundle_task_of (task_in tasks t) =
+-- why a copy of a task's code is refused
+pub code_refused : (t k : ℕ) (kind : BadKind) (task : RawTask) (e : BundleFault) → e ≡ LawFault 4 t k → code_fault_of task ≡ Some (BadCode k kind) → IsCodeFault t task e
+code_refused t k kind task e is fault = subst (IsCodeFault t task) (sym is) (refl, refl, kind, fault)
+
+-- a checked task
+pub task_made : (task : RawTask) (reads writes : List DatumId) (code : ShapedCode) (rs ws : List ℕ) → reads ≡ map datum_id rs → rs ≡ task.reads → writes ≡ map datum_id ws → ws ≡ task.writes → code ≡ verified_code_of task →
+    record { reads = reads; writes = writes; code = code } ≡ bundle_task_of task
+task_made task reads writes code rs ws r r' w w' c =
     ap (λ (x : List DatumId). record { reads = x; writes = writes; code = code }) (r ∙ ap (map datum_id) r')
     ∙ ap (λ (x : List DatumId). record { reads = map datum_id task.reads; writes = x; code = code }) (w ∙ ap (map datum_id) w')
     ∙ ap (λ (x : ShapedCode). record { reads = map datum_id task.reads; writes = map datum_id task.writes; code = x }) c
-    ∙ ap bundle_task_of (sym is) in
-    n ∙ ap (λ (x : List BundleTask). x ++ record { reads = reads; writes = writes; code = code } ∷ []) m ∙ ap (λ (x : BundleTask). map bundle_task_of (take t tasks) ++ x ∷ []) one
-    ∙ sym (map_more bundle_task_of tasks t (record { locals = 0; reads = []; writes = []; code = [] }) k)
+
+-- the fault of a task breaks law 4 first at that task, where those before it have none
+pub task_broken : (raw : RawBundle) (t : ℕ) → t < task_count raw → (task : RawTask) → task_in raw.tasks t ≡ task → IsKeptBefore (codes raw) t 0 → (e : BundleFault) → IsCodeFault t task e → IsBroken 4 (codes raw) e
+task_broken raw t known task is before (LawFault number a b) h =
+    (h.0, subst (λ x. IsFirstBreach (codes raw) x b) (sym h.1) (code_breach raw t known task is before b h.2 h.3))
+task_broken raw t known task is before Memory h = tt

@@ -1,3 +1,4 @@
+pub mod Mapped
 pub mod Scans
 pub mod Instrs
 pub mod Seen

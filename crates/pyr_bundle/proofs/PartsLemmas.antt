@@ -7,6 +7,7 @@ use Rattle.std.proofs.lemmas.List.Elements.{All-map}
 use Rattle.std.proofs.lemmas.Option.{slice_get-get_or}
 use Rattle.pyr_num.specs.declared.ids.DatumId.{DatumId}
 use Rattle.pyr_bundle.specs.declared.raw_bundle.RawBundle.{RawBundle}
+use Rattle.pyr_bundle.specs.declared.raw_datum.RawDatum.{RawDatum}
 use Rattle.pyr_bundle.specs.declared.raw_task.RawTask.{RawTask}
 use Rattle.pyr_bundle.specs.declared.raw_channel.RawChannel.{RawChannel}
 use Rattle.pyr_bundle.specs.declared.raw_instr.RawInstr.{RawInstr}
@@ -164,11 +165,12 @@ capacity_set b i capacity l some few h =
     }
 
 -- parts made one by one
-pub parts_are : (raw : RawBundle) (tasks : List BundleTask) (ds : List DatumId) (cs : List Capacity) (code : List (List Instr)) (numbers : List ℕ) (lines : List RawChannel) (lists : List (List RawInstr)) →
-    tasks ≡ map bundle_task_of raw.tasks → ds ≡ map datum_id numbers → numbers ≡ raw.prints → cs ≡ map capacity_of lines → lines ≡ raw.channels → code ≡ map (map instr_of) lists → lists ≡ raw.code →
-    record { datums = raw.datums; tasks = tasks; prints = ds; channels = cs; code = code } ≡ parts_of raw
-parts_are raw tasks ds cs code numbers lines lists t d d' c c' k k' =
-    ap (λ (x : List BundleTask). record { datums = raw.datums; tasks = x; prints = ds; channels = cs; code = code }) t
-    ∙ ap (λ (x : List DatumId). record { datums = raw.datums; tasks = map bundle_task_of raw.tasks; prints = x; channels = cs; code = code }) (d ∙ ap (map datum_id) d')
-    ∙ ap (λ (x : List Capacity). record { datums = raw.datums; tasks = map bundle_task_of raw.tasks; prints = map datum_id raw.prints; channels = x; code = code }) (c ∙ ap (map capacity_of) c')
-    ∙ ap (λ (x : List (List Instr)). record { datums = raw.datums; tasks = map bundle_task_of raw.tasks; prints = map datum_id raw.prints; channels = map capacity_of raw.channels; code = x }) (k ∙ ap (map (map instr_of)) k')
+pub parts_are : (raw : RawBundle) (named : List RawDatum) (tasks : List BundleTask) (ds : List DatumId) (cs : List Capacity) (code : List (List Instr)) →
+    named ≡ raw.datums → tasks ≡ map bundle_task_of raw.tasks → ds ≡ map datum_id raw.prints → cs ≡ map capacity_of raw.channels → code ≡ map (map instr_of) raw.code →
+    record { datums = named; tasks = tasks; prints = ds; channels = cs; code = code } ≡ parts_of raw
+parts_are raw named tasks ds cs code e t d c k =
+    ap (λ (x : List RawDatum). record { datums = x; tasks = tasks; prints = ds; channels = cs; code = code }) e
+    ∙ ap (λ (x : List BundleTask). record { datums = raw.datums; tasks = x; prints = ds; channels = cs; code = code }) t
+    ∙ ap (λ (x : List DatumId). record { datums = raw.datums; tasks = map bundle_task_of raw.tasks; prints = x; channels = cs; code = code }) d
+    ∙ ap (λ (x : List Capacity). record { datums = raw.datums; tasks = map bundle_task_of raw.tasks; prints = map datum_id raw.prints; channels = x; code = code }) c
+    ∙ ap (λ (x : List (List Instr)). record { datums = raw.datums; tasks = map bundle_task_of raw.tasks; prints = map datum_id raw.prints; channels = map capacity_of raw.channels; code = x }) k

@@ -1,8 +1,14 @@
 -- What the private steps of building a bundle rest on. No public clause cites this.
-use Rattle.std.specs.Prelude.{ℕ, ◌<◌, ◌^◌, Option, Some, None, IfSome}
+use Rattle.std.specs.Prelude.{◌≡◌, ℕ, ◌<◌, ◌^◌, Option, Some, None, IfSome}
+use Rattle.pyr_code.specs.declared.code_fault.CodeFault.TheVariants.{BadCode}
+use Rattle.pyr_code.specs.declared.code_fault.BadKind.{BadKind}
+use Rattle.pyr_bundle.specs.declared.bundle_fault.BundleFault.{BundleFault}
+use Rattle.pyr_bundle.specs.declared.bundle_fault.BundleFault.TheVariants.{Law as LawFault, Memory}
+use Rattle.pyr_bundle.specs.declared.raw_task.RawTask.{RawTask}
 use Rattle.pyr_bundle.specs.declared.raw_channel.RawChannel.{RawChannel}
 use Rattle.pyr_bundle.specs.declared.raw_instr.RawInstr.{RawInstr}
 use Rattle.pyr_bundle.specs.declared.raw_instr.RawInstr.TheVariants.{Recv, Exec, Send}
+use Rattle.pyr_bundle.specs.Laws.{code_fault_of}
 
 -- the datum that an instruction receives
 abbrev pub received : RawInstr → Option ℕ
@@ -39,3 +45,9 @@ HasIds (Send to d) = FitsId to × FitsId d
 
 abbrev pub HasSmallNumbers : RawChannel → Type 0
 HasSmallNumbers c = FitsId c.from × FitsId c.to × FitsId c.capacity
+
+-- Why the code of task t is refused: this is its first fault. Want of memory may come at any point.
+abbrev pub IsCodeFault : ℕ → RawTask → BundleFault → Type 0
+IsCodeFault t task (LawFault number a b) =
+    (number ≡ 4) × (a ≡ t) × (kind : BadKind) × (code_fault_of task ≡ Some (BadCode b kind))
+IsCodeFault t task Memory = Unit {0}

@@ -5,8 +5,7 @@ ghost use Rattle.pyr_bundle.specs.Faults.{IsLawful, IsCause};
 ghost use Rattle.pyr_bundle.specs.WellFormed.{IsWellFormed};
 ghost use Rattle.pyr_bundle.specs.Parts.{parts_of, raw_of, IsBundle, processor_count, task_count, datum_count, task_at, code_at, datum_at, channel_at, with_capacity};
 
-use crate::lawfulness::lawful_tasks;
-use crate::typing::{capacities_of, codes_of, datum_ids};
+use crate::lawfulness::{LawfulParts, lawful_parts};
 use crate::{BundleFault, BundleTask, Capacity, Instr, RawBundle, RawDatum};
 use pyr_num::{DatumId, ProcId, TaskId};
 use sqlite_items::Items;
@@ -65,16 +64,15 @@ impl Bundle {
         // A law is told exactly where it is the smallest broken one, and this its first place.
         ensures fault { IfErr result (IsCause raw) }
     {
-        let tasks = lawful_tasks(alloc, &raw)?;
-        let prints = datum_ids(alloc, raw.prints.as_slice())?;
-        let channels = capacities_of(alloc, raw.channels.as_slice())?;
-        let code = codes_of(alloc, raw.code.as_slice())?;
+        let parts = lawful_parts(alloc, &raw);
+        let datums = raw.into_datums();
+        let LawfulParts { tasks, lists } = parts?;
         Ok(Bundle {
-            datums: raw.datums,
+            datums,
             tasks: Items::from_vec(tasks),
-            prints,
-            channels,
-            code,
+            prints: lists.prints,
+            channels: lists.channels,
+            code: lists.code,
         })
     }
 

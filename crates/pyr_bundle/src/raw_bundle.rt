@@ -1,3 +1,5 @@
+ghost use Rattle.std.specs.Prelude.{◌≡◌};
+
 use crate::{RawChannel, RawDatum, RawInstr, RawTask};
 use sqlite_items::Items;
 
@@ -12,4 +14,13 @@ pub struct RawBundle {
     pub channels: Items<RawChannel>,
     /// One list of instructions for each processor.
     pub code: Items<Items<RawInstr>>,
+}
+
+impl RawBundle {
+    /// The data alone.
+    pub(crate) fn into_datums(self) -> Items<RawDatum>
+        ensures { result ≡ self.datums }
+    {
+        self.datums
+    }
 }

@@ -3,7 +3,7 @@ ghost use Rattle.std.specs.Prelude.{◌≡◌, All, map, IfOk};
 ghost use Rattle.pyr_bundle.specs.Tables.{FitsId, HasIds, HasSmallNumbers};
 ghost use Rattle.pyr_bundle.specs.Parts.{datum_id, capacity_of, instr_of};
 
-use crate::{Capacity, Instr, RawChannel, RawInstr};
+use crate::{Capacity, Instr, RawBundle, RawChannel, RawInstr};
 use pyr_num::{DatumId, ProcId, TaskId};
 use sqlite_items::Items;
 use std::alloc::{AllocError, Global};
@@ -49,10 +49,7 @@ fn instrs_of(alloc: Global, code: &[RawInstr]) -> Result<Items<Instr>, AllocErro
     Ok(Items::from_vec(instrs))
 }
 
-pub(crate) fn codes_of(
-    alloc: Global,
-    codes: &[Items<RawInstr>],
-) -> Result<Items<Items<Instr>>, AllocError>
+fn codes_of(alloc: Global, codes: &[Items<RawInstr>]) -> Result<Items<Items<Instr>>, AllocError>
     requires { All (All HasIds) codes.now }
     ensures { IfOk result (λ typed. typed ≡ map (map instr_of) codes.now) }
 {
@@ -74,10 +71,7 @@ fn capacity_of(channel: RawChannel) -> Capacity
     }
 }
 
-pub(crate) fn capacities_of(
-    alloc: Global,
-    channels: &[RawChannel],
-) -> Result<Items<Capacity>, AllocError>
+fn capacities_of(alloc: Global, channels: &[RawChannel]) -> Result<Items<Capacity>, AllocError>
     requires { All HasSmallNumbers channels.now }
     ensures { IfOk result (λ capacities. capacities ≡ map capacity_of channels.now) }
 {
@@ -86,4 +80,28 @@ pub(crate) fn capacities_of(
         capacities.push(capacity_of(*channel))?;
     }
     Ok(Items::from_vec(capacities))
+}
+
+/// The lists of a bundle whose numbers only name things.
+#[derive(Drop)]
+pub(crate) struct TypedLists {
+    pub(crate) prints: Items<DatumId>,
+    pub(crate) channels: Items<Capacity>,
+    pub(crate) code: Items<Items<Instr>>,
+}
+
+/// The printed data, the channels and the code of raw parts.
+pub(crate) fn typed_lists(alloc: Global, raw: &RawBundle) -> Result<TypedLists, AllocError>
+    requires prints { All FitsId raw.now.prints }
+    requires channels { All HasSmallNumbers raw.now.channels }
+    requires code { All (All HasIds) raw.now.code }
+    ensures prints { IfOk result (λ lists. lists.prints ≡ map datum_id raw.now.prints) }
+    ensures channels { IfOk result (λ lists. lists.channels ≡ map capacity_of raw.now.channels) }
+    ensures code { IfOk result (λ lists. lists.code ≡ map (map instr_of) raw.now.code) }
+{
+    Ok(TypedLists {
+        prints: datum_ids(alloc, raw.prints.as_slice())?,
+        channels: capacities_of(alloc, raw.channels.as_slice())?,
+        code: codes_of(alloc, raw.code.as_slice())?,
+    })
 }

@@ -1,13 +1,14 @@
 -- What code with one op more has.
-use Rattle.std.proofs.Common.{◌≡◌, ℕ, ◌+◌, List, [], ◌∷◌, ◌++◌, reverse, refl, sym, ap, ◌∙◌, arith, max}
+use Rattle.std.proofs.Common.{◌≡◌, ℕ, ◌+◌, ◌<◌, ◌≤◌, List, [], ◌∷◌, ◌++◌, length, get_or, drop, reverse, refl, sym, ap, ◌∙◌, arith, min, max}
+use Rattle.pyr_num.specs.declared.work.TheConstants.{TOO_MUCH}
 use Rattle.pyr_code.specs.declared.op.Op.{Op as OpValue}
 use Rattle.std.proofs.lemmas.List.{reverse-append}
 use Rattle.std.proofs.lemmas.List.Sums.{sum_by-cons}
 use Rattle.pyr_code.specs.Tree.{Op}
 use Rattle.pyr_code.specs.Tree as tree
 use Rattle.pyr_code.specs.Seen.{op_of, code_of}
-use Rattle.pyr_code.proofs.SeenLemmas.{op_of-Push, op_of-Load, op_of-Store, op_of-Frame, op_of-Get, op_of-Put, op_of-Bin, op_of-Sel, op_of-Loop}
-use Rattle.pyr_code.specs.Size.{op_nodes, code_nodes, op_loops, code_loops, op_count, code_count}
+use Rattle.pyr_code.proofs.SeenLemmas.{op_of-Push, op_of-Load, op_of-Store, op_of-Frame, op_of-Get, op_of-Put, op_of-Bin, op_of-Sel, op_of-Loop, left_more}
+use Rattle.pyr_code.specs.Size.{op_nodes, code_nodes, op_loops, code_loops, op_count, code_count, op_work, code_work}
 use Rattle.pyr_code.specs.declared.op.Op.TheVariants as ops
 use Rattle.pyr_bundletext.specs.declared.plain_op.PlainOp.{PlainOp}
 use Rattle.pyr_bundletext.specs.declared.plain_op.PlainOp.TheVariants.{Push, Load, Store, Frame, Get, Put, Bin, Sel}
@@ -90,3 +91,14 @@ pub close_nodes : (outer rest : List OpenLoop) (o : OpenLoop) (current more : Li
 close_nodes outer rest o current more e f =
     let turned : reverse outer ≡ o ∷ reverse rest = ap reverse e ∙ reverse-append rest (o ∷ []) in
     rw (turned, f) (sym (ended_nodes (o ∷ reverse rest) current))
+
+-- the limit of all ops, with one op more
+pub one_node : (nodes all n m limit : ℕ) → nodes ≡ all → all + n < limit → m ≡ n + 1 → nodes + m ≤ limit
+one_node nodes all n m limit e l f = omega arith
+
+-- the capped work of one op more
+pub capped_more : (ops : List OpValue) (k : ℕ) (item : OpValue) (sum one next all : ℕ) → k < length ops → item ≡ get_or ops k item → one ≡ min (op_work (op_of item)) TOO_MUCH → next ≡ min (sum + one) TOO_MUCH → min (sum + code_work (code_of (drop k ops))) TOO_MUCH ≡ all
+    → (min (next + code_work (code_of (drop (k + 1) ops))) TOO_MUCH ≡ all) × (next ≤ TOO_MUCH)
+capped_more ops k item sum one next all l is o n before =
+    let left : code_work (code_of (drop k ops)) ≡ op_work (op_of item) + code_work (code_of (drop (k + 1) ops)) = ap (λ (xs : List OpValue). code_work (code_of xs)) (left_more ops k item l is) in
+    (omega arith, omega arith)

@@ -4,6 +4,7 @@ use Rattle.std.specs.Prelude.{codes, decimal, bytes_eq, ◌==◌}
 use Rattle.std.specs.List.{flat_map}
 use Rattle.std.proofs.lemmas.Slice.Eq.{bytes_eq-Decides}
 use Rattle.std.proofs.lemmas.Bool.{eqb-true}
+use Rattle.std.proofs.lemmas.Option.{none-some}
 use Rattle.pyr_num.specs.declared.arithmetic.Bin.TheVariants.{Add, Sub, Mul, Div, Rem, And, Or, Xor, Shl, Shr, Min, Max, Eq, Lt}
 use Rattle.pyr_num.specs.Name.{is_name}
 use Rattle.pyr_lex.specs.Number.{number_of}
@@ -411,8 +412,8 @@ Told bytes l = IsLine l × (bytes ≡ body_text l)
 keyed_back : (bytes word : List ℕ) (others : List (List ℕ)) (l : Line) → bytes ≡ joined word others
     → (o : Option Keyword) → keyword_of word ≡ o → (r : Option (List ℕ)) → numbers_of others ≡ r
     → numbered_line o others ≡ Some l → Told bytes l
-keyed_back bytes word others l text None e r f h = absurd cc
-keyed_back bytes word others l text (Some k) e None f h = absurd (let other : line_behind k (numbers_of others) ≡ None = ap (line_behind k) f in cc)
+keyed_back bytes word others l text None e r f h = absurd (none-some l h)
+keyed_back bytes word others l text (Some k) e None f h = absurd (none-some l (sym (ap (line_behind k) f) ∙ h))
 keyed_back bytes word others l text (Some k) e (Some ns) f h =
     let behind : line_with k ns ≡ Some l = sym (ap (line_behind k) f) ∙ h in
     let is : IsOf k ns l = with_back k ns l behind in

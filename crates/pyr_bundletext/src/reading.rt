@@ -26,8 +26,10 @@ pub fn read_bundle(alloc: Global, text: &[u8]) -> Result<RawBundle, BundleTextFa
     ensures fault { IfErr result (IsFaultOf text.now) }
 {
     let mut reader = Reader::new(alloc);
-    read_lines(alloc, &mut reader, text)?;
-    Ok(reader.finish())
+    let read = read_lines(alloc, &mut reader, text);
+    let raw = reader.finish();
+    read?;
+    Ok(raw)
 }
 
 // Takes all lines of the text.

@@ -1,8 +1,13 @@
 -- The greatest height of fine code.
-use Rattle.std.proofs.Common.{ℕ, ◌≤◌, arith}
+use Rattle.std.proofs.Common.{◌≡◌, ℕ, ◌+◌, ◌<◌, ◌≤◌, max, List, [], ◌∷◌, length, get_or, drop, sym, ap, subst, ◌∙◌, arith}
+use Rattle.std.proofs.lemmas.List.{drop_all}
+use Rattle.pyr_code.specs.declared.op.Op.{Op as OpValue}
+use Rattle.pyr_code.specs.declared.shape.Shape.{Shape}
 use Rattle.pyr_code.specs.declared.stack.TheConstants.{MAX_HEIGHT}
 use Rattle.pyr_code.specs.Tree.{Op, Push, Load, Store, Frame, Get, Put, Bin, Sel, Loop, Code, End, Then}
-use Rattle.pyr_code.specs.Height.{height_after_op, greatest_height, greatest_height_op}
+use Rattle.pyr_code.specs.Height.{height_after_op, height_after, greatest_height, greatest_height_op}
+use Rattle.pyr_code.specs.Seen.{op_of, code_of}
+use Rattle.pyr_code.proofs.SeenLemmas.{left_more}
 use Rattle.pyr_code.specs.WellFormed.{IsFine, IsFineOp}
 
 -- the height at the start counts
@@ -44,3 +49,36 @@ module _ (reads writes locals : ℕ) where
     greatest_height-low End h low fine = low
     greatest_height-low (Then op rest) h low fine =
         omega (arith, greatest_height_op-low op h low fine.0, greatest_height-low rest (height_after_op op h) (height_after_op-low op h low fine.0) fine.1)
+
+-- an op reaches the height that it leaves
+reached-op : (op : Op) (h : ℕ) → height_after_op op h ≤ greatest_height_op op h
+reached-op (Loop l count turn) h = let from = greatest_height-from turn h in omega arith
+reached-op op h = omega arith
+
+-- the height h0 before the ops, h before those that are left, and the greatest between the two
+pub record Measured (shape : Shape) (left all : List OpValue) (h0 h peak : ℕ) : Type 0 where
+  pub after : height_after (code_of left) h ≡ height_after (code_of all) h0
+  pub greatest : max peak (greatest_height (code_of left) h) ≡ greatest_height (code_of all) h0
+  pub reached : h ≤ peak
+  pub low : h ≤ MAX_HEIGHT
+  pub fine : IsFine shape.reads shape.writes shape.locals (code_of left) h
+
+-- one op more
+pub measured_more : (shape : Shape) (ops : List OpValue) (k : ℕ) (item : OpValue) (h0 h peak next top new : ℕ) → k < length ops → item ≡ get_or ops k item → Measured shape (drop k ops) ops h0 h peak →
+    next ≡ height_after_op (op_of item) h → top ≡ greatest_height_op (op_of item) h → next ≤ MAX_HEIGHT → new ≡ max peak top → Measured shape (drop (k + 1) ops) ops h0 next new
+measured_more shape ops k item h0 h peak next top new l is before n t low e =
+    let rest : List OpValue = drop (k + 1) ops in
+    let m : Measured shape (item ∷ rest) ops h0 h peak = subst (λ (xs : List OpValue). Measured shape xs ops h0 h peak) (left_more ops k item l is) before in
+    record {
+      after = ap (height_after (code_of rest)) n ∙ m.after;
+      greatest = let q : greatest_height (code_of rest) next ≡ greatest_height (code_of rest) (height_after_op (op_of item) h) = ap (greatest_height (code_of rest)) n in let g = m.greatest in omega arith;
+      reached = let r = reached-op (op_of item) h in omega arith;
+      low = low;
+      fine = subst (IsFine shape.reads shape.writes shape.locals (code_of rest)) (sym n) m.fine.1;
+    }
+
+-- no op left
+pub measured_all : (shape : Shape) (ops : List OpValue) (k h0 h peak : ℕ) → length ops ≤ k → Measured shape (drop k ops) ops h0 h peak → (h ≡ height_after (code_of ops) h0) × (peak ≡ greatest_height (code_of ops) h0) × (h ≤ MAX_HEIGHT)
+measured_all shape ops k h0 h peak l before =
+    let m : Measured shape [] ops h0 h peak = subst (λ (xs : List OpValue). Measured shape xs ops h0 h peak) (drop_all k ops l) before in
+    (m.after, let g = m.greatest in let r = m.reached in omega arith, m.low)

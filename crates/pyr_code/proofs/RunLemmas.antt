@@ -1,14 +1,15 @@
 -- What the loops of a run keep.
-use Rattle.std.proofs.Common.{◌≡◌, ◌+◌, ◌*◌, ℕ, ◌≤◌, List, [], length, replicate, take, ap, sym, ◌∙◌, subst}
-use Rattle.std.proofs.lemmas.List.{take-replicate, length-replicate}
+use Rattle.std.proofs.Common.{◌≡◌, ◌+◌, ◌*◌, ℕ, ◌<◌, ◌≤◌, List, [], ◌∷◌, length, get_or, replicate, take, drop, ap, sym, ◌∙◌, subst, arith}
+use Rattle.std.proofs.lemmas.List.{take-replicate, length-replicate, drop_all}
 use Rattle.pyr_num.specs.Cells.{CellLists}
 use Rattle.pyr_code.specs.declared.op.Op.{Op as OpValue}
 use Rattle.pyr_code.specs.declared.shape.Shape.{Shape}
-use Rattle.pyr_code.specs.Seen.{code_of}
-use Rattle.pyr_code.specs.Size.{code_work}
-use Rattle.pyr_code.specs.Height.{height_after}
+use Rattle.pyr_code.specs.Seen.{op_of, code_of}
+use Rattle.pyr_code.proofs.SeenLemmas.{left_more}
+use Rattle.pyr_code.specs.Size.{op_work, code_work}
+use Rattle.pyr_code.specs.Height.{height_after_op, height_after}
 use Rattle.pyr_code.specs.WellFormed.{IsFine, IsWellFormed}
-use Rattle.pyr_code.specs.Meaning.{State, turns, after_code, outputs_of}
+use Rattle.pyr_code.specs.Meaning.{State, turns, after_op, after_code, outputs_of}
 use Rattle.pyr_code.specs.Running.{state_of}
 
 -- the outputs alone change, and none comes or goes
@@ -24,6 +25,31 @@ pub record SoFar (frame : ℕ) (left all : List OpValue) (stack locals : List �
   pub height : height_after (code_of left) (length stack') ≡ height_after (code_of all) (length stack)
   pub kept : Kept locals cells locals' cells'
   pub fine : IsFine (length cells.inputs) (length cells.outputs) (length locals) (code_of left) (length stack')
+
+-- one op more
+pub so_far_more : (frame : ℕ) (ops : List OpValue) (k : ℕ) (item : OpValue) (st ls : List ℕ) (v : CellLists) (st' ls' : List ℕ) (v' : CellLists) (st'' ls'' : List ℕ) (v'' : CellLists) (n n' n'' : ℕ) → k < length ops → item ≡ get_or ops k item → SoFar frame (drop k ops) ops st ls v st' ls' v' n n' →
+    after_op frame v'.inputs (op_of item) (state_of st' ls' v') ≡ state_of st'' ls'' v'' → length st'' ≡ height_after_op (op_of item) (length st') → v'' ≡ record v' { outputs = v''.outputs } → length v''.outputs ≡ length v'.outputs → n'' ≡ n' + op_work (op_of item) → length ls'' ≡ length ls' →
+    SoFar frame (drop (k + 1) ops) ops st ls v st'' ls'' v'' n n''
+so_far_more frame ops k item st ls v st' ls' v' st'' ls'' v'' n n' n'' l is before step high same count worked size =
+    let rest : List OpValue = drop (k + 1) ops in
+    let m : SoFar frame (item ∷ rest) ops st ls v st' ls' v' n n' = subst (λ (xs : List OpValue). SoFar frame xs ops st ls v st' ls' v' n n') (left_more ops k item l is) before in
+    let here : after_op frame v.inputs (op_of item) (state_of st' ls' v') ≡ state_of st'' ls'' v'' = subst (λ (xs : List (List ℕ)). after_op frame xs (op_of item) (state_of st' ls' v') ≡ state_of st'' ls'' v'') (ap (λ (x : CellLists). x.inputs) m.kept.rest) step in
+    record {
+      work = let w = m.work in omega arith;
+      state = ap (after_code frame v.inputs (code_of rest)) (sym here) ∙ m.state;
+      height = ap (height_after (code_of rest)) high ∙ m.height;
+      kept = record {
+        rest = same ∙ ap (λ (x : CellLists). let y : CellLists = record x { outputs = v''.outputs } in y) m.kept.rest;
+        count = count ∙ m.kept.count;
+        locals_length = size ∙ m.kept.locals_length;
+      };
+      fine = subst (IsFine (length v.inputs) (length v.outputs) (length ls) (code_of rest)) (sym high) m.fine.1;
+    }
+
+-- no op left
+pub so_far_all : (frame : ℕ) (ops : List OpValue) (k : ℕ) (st ls : List ℕ) (v : CellLists) (st' ls' : List ℕ) (v' : CellLists) (n n' : ℕ) → length ops ≤ k → SoFar frame (drop k ops) ops st ls v st' ls' v' n n' → SoFar frame [] ops st ls v st' ls' v' n n'
+so_far_all frame ops k st ls v st' ls' v' n n' l before =
+    subst (λ (xs : List OpValue). SoFar frame xs ops st ls v st' ls' v' n n') (drop_all k ops l) before
 
 -- k turns are done
 pub record Turned (frame l : ℕ) (turn : List OpValue) (k : ℕ) (stack locals : List ℕ) (cells : CellLists) (stack' locals' : List ℕ) (cells' : CellLists) (steps steps' : ℕ) : Type 0 where

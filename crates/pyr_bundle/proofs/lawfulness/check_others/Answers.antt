@@ -45,3 +45,18 @@ returns-in_err-check_capacities-clause-fault c =
     let e : c.from_residual-in_err-check_capacities.result ≡ Err c.in_err-check_capacities.field-0.0 = search rules in
     let h : IsCause c.args.raw.now c.in_err-check_capacities.field-0.0 = cause_11 c.args.raw.now _ c.requires.names c.requires.accesses c.requires.writers c.requires.codes c.in_ok-check_prints.ensures.ok c.in_ok-check_operands.ensures.ok c.in_ok-check_executions.ensures.ok c.in_ok-check_sends.ensures.ok c.in_ok-check_receives.ensures.ok c.in_ok-check_channels.ensures.ok c.in_err-check_capacities.ensures.fault in
     rw e h
+
+pub returns-clause-lawful : goal.returns-clause-lawful
+returns-clause-lawful c = record {
+  names = c.requires.names;
+  accesses = c.requires.accesses;
+  writers = c.requires.writers;
+  codes = c.requires.codes;
+  prints = c.in_ok-check_prints.ensures.ok;
+  operands = c.in_ok-check_operands.ensures.ok;
+  executions = c.in_ok-check_executions.ensures.ok;
+  sends = c.in_ok-check_sends.ensures.ok;
+  receives = c.in_ok-check_receives.ensures.ok;
+  channels = c.in_ok-check_channels.ensures.ok;
+  capacities = c.in_ok-check_capacities.ensures.ok;
+}

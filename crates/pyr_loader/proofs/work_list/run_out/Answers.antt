@@ -43,3 +43,6 @@ pub returns-clause-outcome : goal.returns-clause-outcome
 returns-clause-outcome c =
     let i = c.turns.invariant in
     none_waiting c.args.bundle.now (world_of c.args.tags.now.posts) (world_of c.turns.tags.posts) c.turns.steps c.turns.waiting.items (nothing_left _ c.turns.waiting.items c.pop.new.self.items c.in_default.ensures.cases.0 c.in_default.ensures.items c.in_default.ensures.rest) c.requires.start i.reached i.listed
+
+pub go_on-requires : goal.go_on-requires
+go_on-requires c = c.enabled.ensures.0 c.if-not-enabled.false
