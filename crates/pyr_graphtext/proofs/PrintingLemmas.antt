@@ -1,9 +1,10 @@
 -- Lines, written one after another.
-use Rattle.std.proofs.Common.{◌≡◌, ℕ, suc, ◌+◌, ◌<◌, ◌-◌, List, [], ◌∷◌, ◌++◌, map, length, refl, sym, ap, subst, ◌∙◌, arith, append_assoc, cond, Result, Ok, Err}
+use Rattle.std.proofs.Common.{◌≡◌, ℕ, suc, ◌+◌, ◌<◌, ◌≤◌, ◌-◌, List, [], ◌∷◌, ◌++◌, map, length, drop, get_or, refl, sym, ap, subst, ◌∙◌, arith, append_assoc, cond, Result, Ok, Err}
 use Rattle.std.specs.Prelude.{OnOk}
 use Rattle.std.specs.Result.{is_ok}
 use Rattle.std.specs.List.{flat_map, range_with_len}
 use Rattle.std.proofs.lemmas.Grind.{flat_map-append}
+use Rattle.std.proofs.lemmas.List.{append-nil, drop_more}
 use Rattle.std.proofs.lemmas.List.Folds.{flat_map-map}
 use Rattle.pyr_num.specs.declared.ids.DatumId.{DatumId}
 use Rattle.pyr_num.specs.declared.name.Name.{Name}
@@ -18,8 +19,8 @@ use Rattle.pyr_graph.specs.System.{System, task_count, datum_count, task_at, dat
 use Rattle.pyr_graphtext.specs.declared.form.Form.{Form}
 use Rattle.pyr_graphtext.specs.declared.form.Form.TheVariants.{Reads, Writes}
 use Rattle.pyr_graphtext.specs.Line.{Line, Statement, tokens_of_line}
-use Rattle.pyr_graphtext.specs.Program.{ProgramParts, IsProgram, body_at}
-use Rattle.pyr_graphtext.specs.Canonical.{text_of, data_line, names_line, task_head, task_end, task_lines, body_lines, AreLineTokens, names_of, read_names, written_names}
+use Rattle.pyr_graphtext.specs.Program.{ProgramParts, IsProgram, datum_name, body_at}
+use Rattle.pyr_graphtext.specs.Canonical.{text_of, data_line, print_line, names_line, task_head, task_end, task_lines, body_lines, AreLineTokens, names_of, read_names, written_names}
 use Rattle.pyr_graphtext.specs.Slots.{AreSlotNames, FitBody}
 
 -- what holds anyway
@@ -54,6 +55,20 @@ written_on out next total xs ys zs parts left here =
 pub tokens_on : (xs ys zs : List Line) (Total : Type 0) → zs ≡ xs ++ ys → AreLineTokens xs → (AreLineTokens zs → Total) → AreLineTokens ys → Total
 tokens_on xs ys zs Total parts here total left = total (subst AreLineTokens (sym parts) (tokens-append xs ys here left))
 
+-- all lines were written
+pub all_written : (out total : List ℕ) (zs : List Line) → zs ≡ [] → out ++ text_of zs ≡ total → out ≡ total
+all_written out total zs none left = sym (append-nil out) ∙ ap (λ (ls : List Line). out ++ text_of ls) (sym none) ∙ left
+
+pub all_tokens : (zs : List Line) (Total : Type 0) → zs ≡ [] → (AreLineTokens zs → Total) → Total
+all_tokens zs Total none total = total (subst AreLineTokens (sym none) tt)
+
+-- all numbers are left, and none
+pub range_all : (count : ℕ) → range_with_len 0 (count - 0) ≡ range_with_len 0 count
+range_all count = ap (range_with_len 0) (let s : count - 0 ≡ count = omega arith in s)
+
+pub range_none : (n count : ℕ) → count ≤ n → range_with_len n (count - n) ≡ []
+range_none n count h = ap (range_with_len n) (let s : count - n ≡ 0 = omega arith in s)
+
 -- the numbers from here on
 pub range_more : (n count : ℕ) → n < count → range_with_len n (count - n) ≡ n ∷ range_with_len (n + 1) (count - (n + 1))
 range_more n count h = ap (range_with_len n) (let s : count - n ≡ suc (count - (n + 1)) = omega arith in s)
@@ -74,6 +89,12 @@ pub data_tokens_on : (p : ProgramParts) (n : ℕ) (Total : Type 0) → n < datum
 data_tokens_on p n Total h here total left =
     tokens_on (data_line p n ∷ []) (map (data_line p) (range_with_len (n + 1) (datum_count p.graph - (n + 1)))) (map (data_line p) (range_with_len n (datum_count p.graph - n))) Total
     (map_range_more (data_line p) n (datum_count p.graph) h) (here, tt) total left
+
+pub prints_more : (p : ProgramParts) (datums : List DatumId) (i : ℕ) (d : DatumId) (name : Name) → i < length datums → name ≡ datum_name p (get_or datums i d).0
+    → map print_line (names_of p (drop i datums)) ≡ (print_line name ∷ []) ++ map print_line (names_of p (drop (i + 1) datums))
+prints_more p datums i d name h is =
+    ap (λ (ds : List DatumId). map print_line (names_of p ds)) (drop_more datums i d h)
+    ∙ ap (λ (n : Name). print_line n ∷ map print_line (names_of p (drop (i + 1) datums))) (sym is)
 
 pub flat_range_more : (f : ℕ → List Line) (n count : ℕ) → n < count → flat_map f (range_with_len n (count - n)) ≡ f n ++ flat_map f (range_with_len (n + 1) (count - (n + 1)))
 flat_range_more f n count h = ap (flat_map f) (range_more n count h)

@@ -1,12 +1,12 @@
 -- The room that the lists of the tasks need.
-use Rattle.std.proofs.Common.{◌≡◌, ℕ, zero, suc, ◌+◌, ◌<◌, ◌≤◌, List, [], ◌∷◌, ◌++◌, length, get_or, take, arith, refl, ap}
+use Rattle.std.proofs.Common.{◌≡◌, ℕ, zero, suc, ◌+◌, ◌<◌, ◌≤◌, max, List, [], ◌∷◌, ◌++◌, length, get_or, take, arith, below_more, refl, sym, ap, ◌∙◌}
 use Rattle.std.specs.Prelude.{All}
-use Rattle.std.proofs.lemmas.List.{length-replicate}
+use Rattle.std.proofs.lemmas.List.{length-replicate, length-map}
 use Rattle.std.proofs.lemmas.List.Elements.{All-head, All-tail}
 use Rattle.std.proofs.lemmas.List.Sums.{sum_by-cons}
 use Rattle.pyr_num.specs.declared.ids.DatumId.{DatumId}
 use Rattle.pyr_num.specs.Cells.{CellLists, word_count}
-use Rattle.pyr_graph.specs.System.{System, datum_numbers, reads_of, writes_of, length_of}
+use Rattle.pyr_graph.specs.System.{System, datum_numbers, task_at, reads_of, writes_of, length_of}
 use Rattle.pyr_graphtext.specs.Running.{words_of, inputs_from, zeros_for, lengths_of, HasRoom}
 
 -- there is room for it where there is for all
@@ -67,6 +67,22 @@ pub record HasRoomBelow (graph : System) (n slots words : ℕ) : Type 0 where
   pub slots_fit : (t : ℕ) → t < n → length (reads_of graph t) + length (writes_of graph t) ≤ slots
   pub words_fit : (t : ℕ) → t < n
       → lengths_of graph (reads_of graph t) + lengths_of graph (writes_of graph t) ≤ words
+
+-- room for each task below the next number: that of a task more where it needs more
+pub room_more : (graph : System) (n slots words more_slots more_words : ℕ) (reads writes : List DatumId) (read_words written_words : ℕ) → HasRoomBelow graph n slots words
+    → reads ≡ (task_at graph n).reads → writes ≡ (task_at graph n).writes
+    → read_words ≡ lengths_of graph (datum_numbers reads) → written_words ≡ lengths_of graph (datum_numbers writes)
+    → more_slots ≡ max slots (length reads + length writes) → more_words ≡ max words (read_words + written_words)
+    → HasRoomBelow graph (n + 1) more_slots more_words
+room_more graph n slots words more_slots more_words reads writes read_words written_words room same_reads same_writes sum_reads sum_writes most_slots most_words =
+    let many_reads : length reads ≡ length (reads_of graph n) = ap (λ (ds : List DatumId). length ds) same_reads ∙ sym (length-map (task_at graph n).reads (λ (d : DatumId). d.0)) in
+    let many_writes : length writes ≡ length (writes_of graph n) = ap (λ (ds : List DatumId). length ds) same_writes ∙ sym (length-map (task_at graph n).writes (λ (d : DatumId). d.0)) in
+    let long_reads : read_words ≡ lengths_of graph (reads_of graph n) = sum_reads ∙ ap (λ (ds : List DatumId). lengths_of graph (datum_numbers ds)) same_reads in
+    let long_writes : written_words ≡ lengths_of graph (writes_of graph n) = sum_writes ∙ ap (λ (ds : List DatumId). lengths_of graph (datum_numbers ds)) same_writes in
+    record {
+      slots_fit = below_more _ _ (λ t h. omega (arith, room.slots_fit t h, most_slots)) (omega (arith, most_slots, many_reads, many_writes));
+      words_fit = below_more _ _ (λ t h. omega (arith, room.words_fit t h, most_words)) (omega (arith, most_words, long_reads, long_writes));
+    }
 
 -- room under other names
 pub room_moved : (graph : System) (slots words more_slots more_words : ℕ) → more_slots ≡ slots → more_words ≡ words → HasRoom graph slots words → HasRoom graph more_slots more_words

@@ -89,7 +89,10 @@ impl OpenTask {
             part,
         } = self;
         let mut reader = part.into_reader(alloc, nodes)?;
-        reader.line(tokens)?;
+        if let Err(fault) = reader.line(tokens) {
+            drop(reader);
+            return Err(LineFault::from(fault));
+        }
         Ok(OpenTask {
             cost,
             reads,

@@ -91,10 +91,32 @@ fn write_task(
         (read_names program.now task.0) (written_names program.now task.0)) }
 {
     let names = slot_names(alloc, program, task)?;
+    let written = write_named_task(alloc, out, program, task, &names);
+    drop(names);
+    written
+}
+
+// The lines of a task that reads and writes data of these names.
+fn write_named_task(
+    alloc: Global,
+    out: &mut Vec<u8>,
+    program: &Program,
+    task: TaskId,
+    names: &SlotNames,
+) -> Result<(), AllocError>
+    requires task { task.0 < task_count program.now.graph }
+    requires names { AreSlotNames program.now task.0 names.now }
+    requires fit { FitBody (body_at program.now task.0) names.now }
+    ensures text { OnOk result (out.new.items
+        ≡ out.old.items ++ text_of (task_lines program.now task.0)) }
+    ensures tokens { OnOk result (AreLineTokens (task_lines program.now task.0)) }
+    ensures body { OnOk result (IsReadAgain (body_at program.now task.0)
+        (read_names program.now task.0) (written_names program.now task.0)) }
+{
     write_head(out, program, task)?;
     write_reads(alloc, out, names.reads.as_slice())?;
     write_outputs(alloc, out, names.writes.as_slice())?;
-    write_body(alloc, out, program, task, &names)?;
+    write_body(alloc, out, program, task, names)?;
     write_end(out)
 }
 

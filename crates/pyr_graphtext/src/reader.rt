@@ -1,12 +1,12 @@
 // The reader of a text: what the lines so far say.
-ghost use Rattle.std.specs.Prelude.{◌≡◌, ◌+◌, ◌<◌, ◌≤◌, ◌^◌, IsTrue, OnOk, IfOk, None, length, nat_le, not};
+ghost use Rattle.std.specs.Prelude.{◌≡◌, ◌+◌, ◌<◌, ◌≤◌, ◌^◌, IsTrue, OnOk, IfOk, Some, None, length, nat_le, not};
 ghost use Rattle.pyr_num.specs.declared.limits.Quantity.TheVariants as quantities;
 ghost use Rattle.pyr_body.specs.Size.{statements_nodes, statements_work};
 ghost use Rattle.pyr_graphtext.specs.declared.form.Form.TheVariants as forms;
 ghost use Rattle.pyr_graphtext.specs.Faults as spec;
 ghost use Rattle.pyr_graphtext.specs.Statements.{unless};
 ghost use Rattle.pyr_graphtext.specs.Earlier.{datum_ids};
-ghost use Rattle.pyr_graphtext.specs.State.{stage_in};
+ghost use Rattle.pyr_graphtext.specs.State.{stage_in, FitsOpen};
 ghost use Rattle.pyr_graphtext.specs.Tells.{Tells};
 ghost use Rattle.pyr_graphtext.specs.Taking as taking;
 ghost use Rattle.pyr_graphtext.specs.Taking.{TakesForm, TakesTokens, TakesLine};
@@ -124,6 +124,14 @@ impl Reader {
         }
     }
 
+    // Goes on with this task as the open one.
+    fn go_on(&mut self, task: OpenTask)
+        requires { FitsOpen self.old.nodes (Some task) }
+        ensures { self.new ≡ record self.old { open_task = Some task } }
+    {
+        self.open_task = Some(task);
+    }
+
     #[tactic(auto, unfolding(crate::specs::Faults::data_fault))]
     fn data(&mut self, name: Name, words: u64, comm: u64) -> Result<(), LineFault>
         ensures fault { Tells result
@@ -170,7 +178,7 @@ impl Reader {
         if !self.task_names.insert(name)? {
             return Err(duplicate(name));
         }
-        self.open_task = Some(OpenTask {
+        self.go_on(OpenTask {
             cost: cost as u32,
             reads: Items::new(alloc),
             writes: Items::new(alloc),
@@ -211,7 +219,7 @@ impl Reader {
             return Err(TEXT);
         };
         self.all_reads += names.len() as u32;
-        self.open_task = Some(task.reading(reads, names));
+        self.go_on(task.reading(reads, names));
         Ok(())
     }
 
@@ -246,7 +254,8 @@ impl Reader {
         let Some(task) = self.open_task.take() else {
             return Err(TEXT);
         };
-        self.open_task = Some(task.writing(alloc, writes, names, self.nodes)?);
+        let task = task.writing(alloc, writes, names, self.nodes)?;
+        self.go_on(task);
         Ok(())
     }
 
@@ -272,14 +281,15 @@ impl Reader {
     {
         let work = pyr_body::work(&closed.body);
         if self.work + work > Limits::ALL_WORK {
+            drop(closed);
             return Err(limit(Quantity::AllWork));
         }
-        self.open_task = None;
+        drop(self.open_task.take());
         self.nodes += pyr_body::nodes(&closed.body);
         self.work += work;
         let ClosedTask { parts, body } = closed;
-        self.tasks.push(parts)?;
         self.bodies.push(body)?;
+        self.tasks.push(parts)?;
         Ok(())
     }
 
@@ -316,7 +326,8 @@ impl Reader {
         let Some(task) = self.open_task.take() else {
             return Err(stray_fault(tokens));
         };
-        self.open_task = Some(task.take_line(alloc, self.nodes, tokens)?);
+        let task = task.take_line(alloc, self.nodes, tokens)?;
+        self.go_on(task);
         Ok(())
     }
 
@@ -364,15 +375,21 @@ impl Reader {
             task_names,
             tasks,
             bodies,
+            open_task,
+            written,
             prints,
             ..
         } = self;
+        drop(open_task);
+        drop(written);
         let names = ProgramNames {
             datums: datum_names,
             tasks: task_names,
             prints,
         };
-        make_program(alloc, &names, datums, tasks, bodies)
+        let program = make_program(alloc, &names, datums, tasks, bodies);
+        drop(names);
+        program
     }
 }
 

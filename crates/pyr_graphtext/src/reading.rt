@@ -33,8 +33,13 @@ fn read_lines(alloc: Global, text: &[u8]) -> Result<Reader, ProgramFault>
     ensures { ReadsLines text.now result }
 {
     let mut reader = Reader::new(alloc);
-    take_lines(alloc, &mut reader, text)?;
-    Ok(reader)
+    match take_lines(alloc, &mut reader, text) {
+        Ok(()) => Ok(reader),
+        Err(fault) => {
+            drop(reader);
+            Err(fault)
+        }
+    }
 }
 
 // Has a reader that took no line take all lines.

@@ -1,5 +1,5 @@
 -- Lists that are made by number.
-use Rattle.std.proofs.Common.{◌≡◌, ℕ, ◌+◌, ◌*◌, ◌<◌, ◌≤◌, [], ◌∷◌, ◌++◌, length, get_or, map, arith}
+use Rattle.std.proofs.Common.{◌≡◌, ℕ, ◌+◌, ◌*◌, ◌<◌, ◌≤◌, List, [], ◌∷◌, ◌++◌, length, get_or, map, sym, ap, ◌∙◌, arith}
 use Rattle.std.specs.Prelude.{All, AllPairs, sum_by}
 use Rattle.std.specs.List.{range_with_len}
 use Rattle.std.proofs.lemmas.List.FromFn.{length-map-range_with_len, get_or-map-range_with_len, map-range_with_len_more}
@@ -8,6 +8,14 @@ use Rattle.std.proofs.lemmas.List.Sums.{sum_by-le}
 -- one element more
 pub made_more : {X : Type 0} (f : ℕ → X) (n : ℕ) → map f (range_with_len 0 (n + 1)) ≡ map f (range_with_len 0 n) ++ f n ∷ []
 made_more f n = map-range_with_len_more f 0 n n (omega arith)
+
+-- a list with one element more, and all of them
+pub made_on : {X : Type 0} (f : ℕ → X) (n : ℕ) (list pushed : List X) (x : X) → list ≡ map f (range_with_len 0 n) → x ≡ f n → pushed ≡ list ++ x ∷ [] → pushed ≡ map f (range_with_len 0 (n + 1))
+made_on {X} f n list pushed x so_far is push =
+    push ∙ ap (λ (xs : List X). xs ++ x ∷ []) so_far ∙ ap (λ (y : X). map f (range_with_len 0 n) ++ y ∷ []) is ∙ sym (made_more f n)
+
+pub made_whole : {X : Type 0} (f : ℕ → X) (n count : ℕ) (list : List X) → count ≤ n → n ≤ count → list ≡ map f (range_with_len 0 n) → list ≡ map f (range_with_len 0 count)
+made_whole f n count list done within so_far = so_far ∙ ap (λ (k : ℕ). map f (range_with_len 0 k)) (let same : n ≡ count = omega arith in same)
 
 module _ {X : Type 0} (f : ℕ → X) (n : ℕ) where
   pub made_length : length (map f (range_with_len 0 n)) ≡ n

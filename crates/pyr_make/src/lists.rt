@@ -54,7 +54,6 @@ fn reads(alloc: Global, task: u32) -> Result<Items<DatumId>, AllocError>
 }
 
 /// All data, by number.
-#[tactic(auto, using(crate::proofs::MadeLists::made_more))]
 pub fn datum_list(alloc: Global, datums: u32) -> Result<Vec<DatumParts>, AllocError>
     requires { datums ≤ Limits.TASKS }
     ensures { IfOk result (λ list. list.items ≡ map layered_datum (range_with_len 0 datums)) }
