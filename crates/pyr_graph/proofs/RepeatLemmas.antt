@@ -2,11 +2,11 @@
 use Rattle.std.proofs.Common.{◌≡◌, ℕ, ◌+◌, ◌<◌, ◌≤◌, Bool, true, false, List, [], ◌∷◌, ◌++◌, length, get_or, drop, arith, refl, ap, sym, ◌∙◌, inl, inr, BTreeSet, Option, Some, None}
 use Rattle.std.specs.Prelude.{nat_eq, ◌||◌}
 use Rattle.std.specs.List.{list_any, flat_map}
-use Rattle.std.specs.Option.{option_map}
+use Rattle.std.specs.Option.{option_map, option_or}
 use Rattle.std.specs.Ordering.{nat_cmp}
 use Rattle.std.specs.BTreeSet.{contains, Updates}
 use Rattle.std.proofs.lemmas.Bool.{cases_eq}
-use Rattle.std.proofs.lemmas.List.{drop_more, drop_all, get_or-map, length-map}
+use Rattle.std.proofs.lemmas.List.{drop_more, drop_all, get_or-map, length-map, at_drop_more}
 use Rattle.pyr_num.specs.declared.ids.DatumId.{DatumId}
 use Rattle.pyr_graph.specs.declared.parts.TaskParts.{TaskParts}
 use Rattle.pyr_graph.specs.System.{datum_numbers}
@@ -85,3 +85,34 @@ IsSearched-end list at later found end is = let zero_at : at ≡ 0 = omega arith
 -- the first datum that stands twice in one list of these tasks, or in the prints
 abbrev pub first_in : List DatumId → List TaskParts → Option ℕ
 first_in prints tasks = first_repeated_of (flat_map lists_of tasks ++ datum_numbers prints ∷ [])
+
+-- what the search of one list tells of another name of it
+pub told : (found answer : Option DatumId) (searched list : List DatumId) → option_map (λ d. d.0) found ≡ first_repeated (datum_numbers searched)
+    → found ≡ answer → searched ≡ list → first_repeated (datum_numbers list) ≡ option_map (λ d. d.0) answer
+told found answer searched list is same kept =
+    sym (ap (λ (l : List DatumId). first_repeated (datum_numbers l)) kept) ∙ (sym is ∙ ap (option_map (λ (d : DatumId). d.0)) same)
+
+module _ (prints : List DatumId) (tasks : List TaskParts) (i : ℕ) (task : TaskParts) (inside : i < length tasks)
+    (is : task ≡ get_or tasks i task) (so_far : first_in prints (drop i tasks) ≡ first_in prints tasks) where
+  abbrev after : List (List ℕ)
+  after = flat_map lists_of (drop (i + 1) tasks) ++ datum_numbers prints ∷ []
+
+  from_task : option_or (first_repeated (datum_numbers task.reads)) (option_or (first_repeated (datum_numbers task.writes)) (first_repeated_of after)) ≡ first_in prints tasks
+  from_task =
+      ap (λ (t : TaskParts). first_in prints (t ∷ drop (i + 1) tasks)) is
+      ∙ (sym (at_drop_more (first_in prints) tasks i task inside) ∙ so_far)
+
+  -- the datum stands twice in the reads of this task, or else in its writes, or in neither
+  pub first_in-reads : (d : ℕ) → first_repeated (datum_numbers task.reads) ≡ Some d → Some d ≡ first_in prints tasks
+  first_in-reads d found =
+      ap (λ (o : Option ℕ). option_or o (option_or (first_repeated (datum_numbers task.writes)) (first_repeated_of after))) (sym found) ∙ from_task
+
+  pub first_in-writes : (d : ℕ) → first_repeated (datum_numbers task.reads) ≡ None → first_repeated (datum_numbers task.writes) ≡ Some d → Some d ≡ first_in prints tasks
+  first_in-writes d none found =
+      ap (λ (o : Option ℕ). option_or o (first_repeated_of after)) (sym found)
+      ∙ (ap (λ (o : Option ℕ). option_or o (option_or (first_repeated (datum_numbers task.writes)) (first_repeated_of after))) (sym none) ∙ from_task)
+
+  pub first_in-next : first_repeated (datum_numbers task.reads) ≡ None → first_repeated (datum_numbers task.writes) ≡ None → first_in prints (drop (i + 1) tasks) ≡ first_in prints tasks
+  first_in-next none none' =
+      ap (λ (o : Option ℕ). option_or o (first_repeated_of after)) (sym none')
+      ∙ (ap (λ (o : Option ℕ). option_or o (option_or (first_repeated (datum_numbers task.writes)) (first_repeated_of after))) (sym none) ∙ from_task)

@@ -1,4 +1,4 @@
-use Rattle.std.proofs.Common.{◌≡◌, ◌<◌, length, get_or, arith, rules, sym, ◌∙◌, None}
+use Rattle.std.proofs.Common.{◌≡◌, ℕ, ◌<◌, ◌^◌, List, Fits, w64, length, get_or, arith, rules, sym, ◌∙◌, None}
 use Rattle.std.proofs.lemmas.List.{get_or_read, drop-map, map_push, length-map}
 use Rattle.pyr_num.specs.declared.ids.TaskId.{TaskId}
 use Rattle.pyr_graph.specs.System.{task_numbers}
@@ -14,6 +14,10 @@ task_in c = waiting_in c.args.pending.now c.loop-first.task.0 c.loop-first.invar
 -- what the table of the places says of it
 read : (c : After-index) → c.index.result.now ≡ get_or c.loop-first.places.items c.loop-first.task.0 None
 read c = get_or_read c.loop-first.places.items _ _ (omega (arith, task_in c, c.loop-first.invariant.1.full)) c.index.ensures None
+
+-- so its number fits an index
+fits : (pending : List ℕ) (t : ℕ) → length pending < 2 ^ 32 → IsWaiting pending t → Fits w64 t
+fits pending t few waits = let inside = waiting_in pending t waits in omega (arith, few, inside)
 
 pub split_off-requires : goal.split_off-requires
 split_off-requires c =
@@ -65,3 +69,9 @@ index-requires c =
 
 pub index_mut-requires : goal.index_mut-requires
 index_mut-requires c = omega (arith, task_in (goal.at.index_mut-requires c).After-index, c.loop-first.invariant.1.full, c.loop-first.places.ok)
+
+pub overflow_cast-task : goal.overflow_cast-task
+overflow_cast-task c = fits c.args.pending.now c.loop-first.task.0 c.requires.few c.loop-first.invariant.0.stands
+
+pub overflow_cast-task-in-loop-first : goal.overflow_cast-task-in-loop-first
+overflow_cast-task-in-loop-first c = fits c.args.pending.now c.loop-first.task.0 c.requires.few c.loop-first.invariant.0.stands

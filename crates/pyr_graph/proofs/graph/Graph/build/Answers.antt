@@ -17,3 +17,10 @@ returns c = record {
   sound = rw (c.deref.ensures.value, c.deref-2.ensures.value, c.deref-3.ensures.value) at c.in_ok-index.ensures.sound;
   fault = tt;
 }
+
+pub invariant_of-result : goal.invariant_of-result
+invariant_of-result c =
+    rw (c.from_vec.ensures, c.from_vec-2.ensures, c.from_vec-3.ensures) (
+      rw (c.deref.ensures.value, c.deref-2.ensures.value, c.deref-3.ensures.value) at c.in_ok-index.ensures.graph,
+      rw (c.deref.ensures.value, c.deref-2.ensures.value, c.deref-3.ensures.value) at c.in_ok-index.ensures.index,
+    )
