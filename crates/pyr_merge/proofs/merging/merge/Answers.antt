@@ -1,11 +1,41 @@
-use Rattle.std.proofs.Common.{◌≡◌, ℕ, ◌+◌, set, ap, add-one, arith, ◌∙◌, length, get_or}
+use Rattle.std.proofs.Common.{◌≡◌, ℕ, ◌+◌, set, ap, add-one, arith, ◌∙◌, length, get_or, replicate, refl}
 use Rattle.std.proofs.lemmas.Grind.{get_or_default_zero}
+use Rattle.pyr_num.specs.declared.ids.ProcId.{ProcId}
 use Rattle.pyr_graph.specs.System.{task_numbers}
 use Rattle.pyr_graph.specs.Clusters.{cluster_numbers}
 use Rattle.pyr_merge.specs.declared.weighed.Weighed.{Weighed}
 use Rattle.pyr_merge.proofs.RowLemmas.{row-inside, row-tasks, written}
+use Rattle.pyr_merge.proofs.DealLemmas.{IsDealing-start, IsDealing-room, IsMerged-from_dealing}
 use Rattle.pyr_merge.proofs.StepLemmas.{next-inside, IsDealing-step}
 use Rattle.pyr_merge.proofs.merging.merge.Goals as goal
+
+pub by_falling_load-requires : goal.by_falling_load-requires
+by_falling_load-requires c = rw c.as_slice-clusters.ensures c.requires.partition
+
+pub loop-next-init : goal.loop-next-init
+loop-next-init c =
+    let first : ProcId = record { 0 = 0 } in
+    IsDealing-start _ _ _ _ c.in_ok-loads.loads.items c.in_ok-of.of.items c.requires.some (c.in_ok-loads.ensures.items_if_clones_equal (λ y h. h)) (c.in_ok-of.ensures.items_if_clones_equal (λ y h. h) ∙ ap (λ (n : ℕ). replicate n first) c.task_count.ensures)
+
+pub least_loaded-processor-requires : goal.least_loaded-processor-requires
+least_loaded-processor-requires c = rw (c.deref.ensures.value, c.loop-next.invariant.loads_full) c.requires.some
+
+pub index_mut-requires : goal.index_mut-requires
+index_mut-requires c = rw (← c.deref.ensures.len) c.least_loaded-processor.ensures.inside
+
+pub overflow_add-index_mut : goal.overflow_add-index_mut
+overflow_add-index_mut c =
+    let least = rw c.deref.ensures.value at c.least_loaded-processor.ensures in
+    let at_p = c.index_mut.ensures.value ∙ get_or_default_zero c.loop-next.loads.items c.least_loaded-processor.result c.index_mut.result.now least.inside in
+    let d : Weighed = record { load = record { 0 = 0 }; cluster = 0 } in
+    let room = IsDealing-room c.args.graph.now (cluster_numbers c.args.clustering.now.clusters) c.args.processors c.deref-next-items.result.now c.loop-next.next-index c.least_loaded-processor.result d c.loop-next.loads.items c.loop-next.of.items
+    c.loop-next.invariant c.loop-next-test.true least.inside (rw (← c.deref-next-items.ensures.value) at c.in_ok-order.ensures.small) in
+    omega (arith, room, at_p)
+
+pub overflow_cast-processor : goal.overflow_cast-processor
+overflow_cast-processor c =
+    let inside = rw (c.deref.ensures.value, c.loop-next.invariant.loads_full) at c.least_loaded-processor.ensures.inside in
+    omega (arith, inside, c.requires.few)
 
 pub bounds-clusters-next : goal.bounds-clusters-next
 bounds-clusters-next c =
@@ -49,3 +79,14 @@ loop-next-preserved c =
     c.loop-next.loads.items c.loop-next.of.items c.put_on.new.of c.loop-next.invariant least full
     (rw (c.as_slice-tasks.ensures, c.deref_mut.ensures.value) at c.put_on.ensures)
     _ (ap (λ (n : ℕ). set c.loop-next.loads.items c.least_loaded-processor.result (n + (get_or order c.loop-next.next-index d).load.0)) at_p))
+
+pub returns : goal.returns
+returns c =
+    let dealing = c.loop-next.invariant in
+    rw c.from_vec.ensures (record {
+      merged = IsMerged-from_dealing _ _ _ _ c.loop-next.next-index c.in_ok-order.order.items c.loop-next.loads.items c.loop-next.of.items dealing c.loop-next-test.false c.deref-next-items.ensures.value
+          (rw c.as_slice-clusters.ensures at c.in_ok-order.ensures.order);
+      processors = refl;
+      full = dealing.full;
+      inside = dealing.inside;
+    })

@@ -1,6 +1,9 @@
-use Rattle.std.proofs.Common.{◌≡◌, add-one, sym, ◌∙◌}
+use Rattle.std.proofs.Common.{◌≡◌, List, add-one, ap, sym, ◌∙◌}
+use Rattle.std.proofs.lemmas.List.{take_all}
+use Rattle.pyr_num.specs.declared.ids.TaskId.{TaskId}
 use Rattle.pyr_graph.specs.System.{task_numbers}
-use Rattle.pyr_merge.specs.Weighed.{weighed}
+use Rattle.pyr_graph.specs.Clusters.{cluster_numbers}
+use Rattle.pyr_merge.specs.Weighed.{weighed, weighed_from}
 use Rattle.pyr_merge.proofs.RowLemmas.{row-inside, row-small, all-more}
 use Rattle.pyr_merge.proofs.weighed.weighed_clusters.Goals as goal
 
@@ -22,3 +25,10 @@ loop-cluster-preserved c =
     (c.in_ok-push.ensures.items
     ∙ (rw (one, c.loop-cluster.invariant)
     (sym (all-more c.args.graph.now c.args.clusters.now c.loop-cluster.cluster c.index-clusters-cluster.result c.loop-cluster-test.true c.index-clusters-cluster.is))))
+
+pub loop-cluster-init : goal.loop-cluster-init
+loop-cluster-init c = c.in_ok-order.ensures.items
+
+pub returns : goal.returns
+returns c =
+    c.loop-cluster.invariant ∙ ap (λ (l : List (List TaskId)). weighed_from c.args.graph.now 0 (cluster_numbers l)) (take_all c.loop-cluster.cluster c.args.clusters.now c.loop-cluster-test.false)
