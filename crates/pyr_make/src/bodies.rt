@@ -12,7 +12,6 @@ use sqlite_items::Boxed;
 use std::alloc::{AllocError, Global};
 
 /// The bodies of all tasks, by number.
-#[tactic(auto, using(crate::proofs::MadeLists::made_more))]
 pub fn body_list(alloc: Global, tasks: u32) -> Result<Vec<Body>, AllocError>
     requires { tasks ≤ Limits.TASKS }
     ensures { IfOk result (λ bodies. bodies.items ≡ map layered_body (range_with_len 0 tasks)) }

@@ -12,7 +12,6 @@ use sqlite_items::Items;
 use std::alloc::{AllocError, Global};
 
 /// All tasks, by number.
-#[tactic(auto, using(crate::proofs::MadeLists::made_more))]
 pub fn task_list(alloc: Global, tasks: u32) -> Result<Vec<TaskParts>, AllocError>
     requires { tasks ≤ Limits.TASKS }
     ensures { IfOk result (λ list. list.items ≡ map layered_task (range_with_len 0 tasks)) }

@@ -8,7 +8,6 @@ use pyr_num::Name;
 use std::alloc::{AllocError, Global};
 
 // The names of the data, by number.
-#[tactic(auto, using(crate::proofs::MadeLists::made_more, crate::proofs::NameLemmas::datum_is_named))]
 fn datum_names(alloc: Global, datums: u32) -> Result<Vec<Name>, AllocError>
     ensures { IfOk result (λ names. names.items
         ≡ map layered_datum_name (range_with_len 0 datums)) }
@@ -21,7 +20,6 @@ fn datum_names(alloc: Global, datums: u32) -> Result<Vec<Name>, AllocError>
 }
 
 // The names of the tasks, by number.
-#[tactic(auto, using(crate::proofs::MadeLists::made_more, crate::proofs::NameLemmas::task_is_named))]
 fn task_names(alloc: Global, tasks: u32) -> Result<Vec<Name>, AllocError>
     ensures { IfOk result (λ names. names.items
         ≡ map layered_task_name (range_with_len 0 tasks)) }
