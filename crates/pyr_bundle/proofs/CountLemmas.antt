@@ -3,17 +3,17 @@ use Rattle.std.proofs.Common.{Fits, w32, ◌^◌, ◌≡◌, ℕ, ◌+◌, ◌<�
 use Rattle.std.specs.Prelude.{nat_eq, not, ◌&&◌, Option, Some, None, MatchOption, if◌then◌else◌, slice_get}
 use Rattle.std.specs.List.{list_any}
 use Rattle.std.proofs.lemmas.Bool.{eq-eqb, ne_eqb, cases_eq, ltb-true, and_parts}
-use Rattle.std.proofs.lemmas.List.{take-append-drop}
+use Rattle.std.proofs.lemmas.List.{take-append-drop, length-take}
 use Rattle.std.proofs.lemmas.List.Folds.{list_any_more}
-use Rattle.std.proofs.lemmas.List.Sums.{sum_by_more, sum_by-append, sum_by-cons, count_by-le-length}
+use Rattle.std.proofs.lemmas.List.Sums.{sum_by_more, sum_by-append, sum_by-cons, count_by-le-length, count_by_more_yes, count_by_more_no}
 use Rattle.std.proofs.lemmas.Option.{slice_get-get_or}
 use Rattle.pyr_bundle.specs.declared.raw_bundle.RawBundle.{RawBundle}
 use Rattle.pyr_bundle.specs.declared.raw_instr.RawInstr.{RawInstr}
 use Rattle.pyr_bundle.specs.declared.raw_instr.RawInstr.TheVariants.{Recv, Exec, Send}
 use Rattle.pyr_bundle.specs.Law.{IsKept, IsFirstBreach, single}
-use Rattle.pyr_bundle.specs.Tables.{IsExecBelow, IsSendBelow}
+use Rattle.pyr_bundle.specs.Tables.{executed, sent, IsExecBelow, IsSendBelow}
 use Rattle.pyr_bundle.specs.Raw.{task_count, processor_count, code_in}
-use Rattle.pyr_bundle.specs.Laws.{fresh, fits, fits_at, operands}
+use Rattle.pyr_bundle.specs.Laws.{fresh, fits, fits_at, operands, is_exec, is_send_to}
 use Rattle.pyr_bundle.proofs.Stamps.{fresh_at}
 
 eqb_comm : (a b : ℕ) → (a == b) ≡ (b == a)
@@ -36,6 +36,52 @@ bumped counts x k l = at (cases_eq k x)
       where
         zero : (n : ℕ) → n + 0 ≡ n
         zero n = omega arith
+
+-- A table of how many of the first instructions are of each number, once one instruction more was
+-- looked at: one of number x, or of none.
+module _ (of : ℕ → RawInstr → Bool) (code : List RawInstr) (i : ℕ) (d : RawInstr) (counts old : List ℕ) (low : i < length code)
+    (so_far : (k : ℕ) → k < length counts → get_or counts k 0 ≡ get_or old k 0 + count_by (of k) (take i code)) where
+  pub tally_more : (x : ℕ) → x < length counts → ((k : ℕ) → of k (get_or code i d) ≡ (x == k)) →
+      (k : ℕ) → k < length counts → get_or (set counts x (get_or counts x 0 + 1)) k 0 ≡ get_or old k 0 + count_by (of k) (take (i + 1) code)
+  tally_more x l is k m = at (k == x) (bumped counts x k l) (is k ∙ eqb_comm x k)
+    where
+      at : (b : Bool) → get_or (set counts x (get_or counts x 0 + 1)) k 0 ≡ get_or counts k 0 + (if b then 1 else 0) → of k (get_or code i d) ≡ b →
+          get_or (set counts x (get_or counts x 0 + 1)) k 0 ≡ get_or old k 0 + count_by (of k) (take (i + 1) code)
+      at true new e = omega (arith, so_far k m, count_by_more_yes (of k) code i d low e)
+      at false new e = omega (arith, so_far k m, count_by_more_no (of k) code i d low e)
+
+  pub tally_same : ((k : ℕ) → of k (get_or code i d) ≡ false) → (k : ℕ) → k < length counts → get_or counts k 0 ≡ get_or old k 0 + count_by (of k) (take (i + 1) code)
+  tally_same is k m = omega (arith, so_far k m, count_by_more_no (of k) code i d low (is k))
+
+  -- the number can be counted once more
+  pub tally_fits : (x : ℕ) → x < length counts → get_or old x 0 + length code < 2 ^ 32 → Fits w32 (get_or counts x 0 + 1)
+  tally_fits x l few = omega (arith, so_far x l, count_by-le-length (of x) (take i code), length-take i code)
+
+pub exec_of : (instr : RawInstr) (t k : ℕ) → executed instr ≡ Some t → is_exec k instr ≡ (t == k)
+exec_of (Exec u) t k e = let same : u ≡ t = cc in ap (λ n. n == k) same
+exec_of (Recv from x) t k e = absurd (cc)
+exec_of (Send to x) t k e = absurd (cc)
+
+pub no_exec : (instr : RawInstr) (k : ℕ) → executed instr ≡ None → is_exec k instr ≡ false
+no_exec (Exec u) k e = absurd (cc)
+no_exec (Recv from x) k e = refl
+no_exec (Send to x) k e = refl
+
+pub exec_below : (instr : RawInstr) (t count : ℕ) → executed instr ≡ Some t → IsExecBelow count instr → t < count
+exec_below instr t count e h = rw e at h
+
+pub send_of : (instr : RawInstr) (pair : ℕ × ℕ) (k : ℕ) → sent instr ≡ Some pair → is_send_to k instr ≡ (pair.0 == k)
+send_of (Send to x) pair k e = let same : (to, x) ≡ pair = cc in ap (λ (p : ℕ × ℕ). p.0 == k) same
+send_of (Recv from x) pair k e = absurd (cc)
+send_of (Exec u) pair k e = absurd (cc)
+
+pub no_send : (instr : RawInstr) (k : ℕ) → sent instr ≡ None → is_send_to k instr ≡ false
+no_send (Send to x) k e = absurd (cc)
+no_send (Recv from x) k e = refl
+no_send (Exec u) k e = refl
+
+pub send_below : (instr : RawInstr) (pair : ℕ × ℕ) (count : ℕ) → sent instr ≡ Some pair → IsSendBelow count instr → pair.0 < count
+send_below instr pair count e h = rw e at h
 
 -- Each number of a list of different numbers, once more.
 once : (a b : Bool) → (a ≡ true → b ≡ false) → (if a then 1 else 0) + (if b then 1 else 0) ≡ (if a || b then 1 else 0)

@@ -1,6 +1,7 @@
 -- Going through the places of a law, row by row.
 use Rattle.std.proofs.Common.{◌≡◌, ℕ, ◌+◌, ◌<◌, ◌≤◌, Bool, true, false, ◌||◌, cond, ◌⊎◌, inl, inr, refl, subst, sym, arith}
-use Rattle.std.specs.Prelude.{Option, Some, None}
+use Rattle.std.specs.Prelude.{Option, Some, None, Result, Ok, Err, IfErr}
+use Rattle.std.specs.Result.{IsErrAnd}
 use Rattle.std.proofs.lemmas.Bool.{cases_eq}
 use Rattle.pyr_bundle.specs.declared.bundle_fault.BundleFault.{BundleFault}
 use Rattle.pyr_bundle.specs.declared.bundle_fault.BundleFault.TheVariants.{Law as LawFault}
@@ -59,6 +60,11 @@ cond_or false false = refl
 -- the fault that tells a breach
 pub broken : (n : ℕ) (law : Law) (a b : ℕ) (e : BundleFault) → e ≡ LawFault n a b → IsFirstBreach law a b → IsBroken n law e
 broken n law a b e is h = subst (IsBroken n law) (sym is) (refl, h)
+
+-- what holds of a fault holds of an answer that passes it on
+pub told : {T : Type 0} (P : BundleFault → Type 0) (r : Result T BundleFault) (fault : BundleFault) → IsErrAnd r (λ e. e ≡ fault) → P fault → IfErr r P
+told P (Ok x) fault is h = absurd is
+told P (Err e) fault is h = subst P (sym is) h
 
 pub not_some : {X : Type 0} (o : Option X) → ((x : X) → o ≡ Some x → ⊥) → o ≡ None
 not_some None h = refl

@@ -1,5 +1,4 @@
-use Rattle.std.proofs.Common.{◌≡◌, ℕ, ◌<◌, ◌≤◌, [], All, ◌∙◌, sym, ap, subst, length, rules, arith}
-use Rattle.std.specs.Prelude.{Err}
+use Rattle.std.proofs.Common.{◌≡◌, ℕ, ◌<◌, ◌≤◌, [], All, ◌∙◌, sym, ap, subst, length, arith}
 use Rattle.pyr_num.specs.declared.limits.TheConstants.Limits.{DATUMS}
 use Rattle.pyr_bundle.specs.declared.raw_bundle.RawBundle.{RawBundle}
 use Rattle.pyr_bundle.specs.declared.raw_task.RawTask.{RawTask}
@@ -10,7 +9,7 @@ use Rattle.pyr_bundle.specs.Tables.{FitsId}
 use Rattle.pyr_bundle.specs.Laws.{accesses, codes}
 use Rattle.pyr_bundle.specs.Parts.{bundle_task_of}
 use Rattle.pyr_bundle.proofs.Typed.{fresh_small}
-use Rattle.pyr_bundle.proofs.Scans.{before_all}
+use Rattle.pyr_bundle.proofs.Scans.{told, before_all}
 use Rattle.pyr_bundle.proofs.AccessLemmas.{task_is, reads_fresh, writes_fresh}
 use Rattle.pyr_bundle.proofs.FaultPlaces.{code_kept, task_broken}
 use Rattle.pyr_bundle.proofs.Mapped.{one_more, all_made}
@@ -41,9 +40,8 @@ checked_task-requires c =
 pub returns-in_err-checked_task-clause-fault : goal.returns-in_err-checked_task-clause-fault
 returns-in_err-checked_task-clause-fault c =
     let at = task_is c.args.raw.now.tasks _ c.loop-t.t c.task-item.result c.as_slice-task-items.ensures c.loop-t-test.true c.task-item.is in
-    let e : c.from_residual-in_err-checked_task.result ≡ Err c.in_err-checked_task.field-0.0 = search rules in
-    let h : IsBroken 4 (codes c.args.raw.now) c.in_err-checked_task.field-0.0 = task_broken c.args.raw.now c.loop-t.t at.0 c.task-item.result at.1 c.loop-t.invariant.before _ c.in_err-checked_task.ensures.fault in
-    rw e h
+    told (IsBroken 4 (codes c.args.raw.now)) c.from_residual-in_err-checked_task.result c.in_err-checked_task.field-0.0 c.from_residual-in_err-checked_task.ensures.1
+    (task_broken c.args.raw.now c.loop-t.t at.0 c.task-item.result at.1 c.loop-t.invariant.before _ c.in_err-checked_task.ensures.fault)
 
 pub loop-t-preserved : goal.loop-t-preserved
 loop-t-preserved c =
