@@ -11,7 +11,9 @@ use Rattle.pyr_bundle.specs.Raw.{tree_of}
 use Rattle.pyr_bundle.specs.declared.raw_bundle.RawBundle.{RawBundle}
 use Rattle.pyr_bundle.specs.declared.raw_task.RawTask.{RawTask}
 use Rattle.pyr_bundle.specs.declared.raw_channel.RawChannel.{RawChannel}
-use Rattle.pyr_bundletext.specs.Text.{spaced, line, op_text, code_text, datum_text, task_text, print_text, channel_text, processors_text, text_of}
+use Rattle.pyr_bundle.specs.declared.raw_datum.RawDatum.{RawDatum}
+use Rattle.pyr_bundle.specs.declared.raw_instr.RawInstr.{RawInstr}
+use Rattle.pyr_bundletext.specs.Text.{spaced, line, op_text, code_text, datum_text, task_text, print_text, channel_text, instr_text, processors_text, text_of}
 use Rattle.pyr_bundletext.specs.Spelled.{IsWord, IsSpelledOp, IsSpelledCode}
 
 -- the numbers of a slice of words are words
@@ -98,6 +100,26 @@ pub task_written : (task : RawTask) (locals : ℕ) (reads writes : List ℕ) (co
     t1 ≡ t0 ++ line (codes "task") (locals ∷ []) → t2 ≡ t1 ++ line (codes "reads") reads → t3 ≡ t2 ++ line (codes "writes") writes → t4 ≡ t3 ++ code_text code → t5 ≡ t4 ++ line (codes "end") [] → t5 ≡ t0 ++ task_text task
 task_written task locals reads writes code t0 t1 t2 t3 t4 t5 l r w k e1 e2 e3 e4 e5 =
     joined t0 t4 t5 _ _ (joined t0 t3 t4 _ _ (joined t0 t2 t3 _ _ (joined t0 t1 t2 _ _ (e1 ∙ ap (λ n. t0 ++ line (codes "task") (n ∷ [])) l) (e2 ∙ ap (λ (ns : List ℕ). t1 ++ line (codes "reads") ns) r)) (e3 ∙ ap (λ (ns : List ℕ). t2 ++ line (codes "writes") ns) w)) (e4 ∙ ap (λ (c : Code). t3 ++ code_text c) k)) e5
+
+-- the line of a datum
+pub datum_written : (datum : RawDatum) (n : ℕ) (t0 t1 t2 t3 t4 : List ℕ) → n ≡ datum.length → t1 ≡ t0 ++ codes "datum " → t2 ≡ t1 ++ datum.name → t3 ≡ t2 ++ spaced n → t4 ≡ t3 ++ 10 ∷ [] → t4 ≡ t0 ++ datum_text datum
+datum_written datum n t0 t1 t2 t3 t4 is e1 e2 e3 e4 =
+    let word = codes "datum " ++ datum.name in
+    line_written t0 word (datum.length ∷ []) t3 t4
+    (e3 ∙ ap (λ (t : List ℕ). t ++ spaced n) (joined t0 t1 t2 _ _ e1 e2) ∙ ap (λ m. t0 ++ word ++ spaced m) is ∙ ap (λ (t : List ℕ). t0 ++ word ++ t) (sym (append-nil (spaced datum.length))))
+    e4
+
+-- the lines of one processor more, and those of all
+pub processor_written : (p n : ℕ) (code : List RawInstr) (left rest : List (List RawInstr)) (text head new whole : List ℕ) → left ≡ code ∷ rest → n ≡ p → text ++ processors_text p left ≡ whole → head ≡ text ++ line (codes "processor") (n ∷ []) → new ≡ head ++ flat_map instr_text code
+    → new ++ processors_text (p + 1) rest ≡ whole
+processor_written p n code left rest text head new whole is named before first second =
+    ap (λ (t : List ℕ). t ++ processors_text (p + 1) rest) (joined text head new _ _ (first ∙ ap (λ m. text ++ line (codes "processor") (m ∷ [])) named) second)
+    ∙ append_assoc text (line (codes "processor") (p ∷ []) ++ flat_map instr_text code) (processors_text (p + 1) rest)
+    ∙ ap (λ (ls : List (List RawInstr)). text ++ processors_text p ls) (sym is) ∙ before
+
+pub processors_all : (p : ℕ) (left : List (List RawInstr)) (text whole : List ℕ) → left ≡ [] → text ++ processors_text p left ≡ whole → text ≡ whole
+processors_all p left text whole none before =
+    sym (append-nil text) ∙ ap (λ (ls : List (List RawInstr)). text ++ processors_text p ls) (sym none) ∙ before
 
 -- one piece behind all before it
 behind : (text new a b : List ℕ) → text ≡ a → new ≡ text ++ b → new ≡ a ++ b
