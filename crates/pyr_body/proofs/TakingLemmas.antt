@@ -115,6 +115,10 @@ stmt_of-For l n turn = ap stmt_of (sym (rolls-For l n turn)) ∙ fold-roll-Stmt 
 whole : (reads : ℕ) (slots : List Name) → reads ≤ length slots → length slots ≡ reads + (length slots - reads)
 whole reads slots l = omega arith
 
+-- a loop behind these statements
+abbrev opened_loop : List StmtValue → ℕ → ℕ → OpenLoop
+opened_loop front local count = record { before = front; local = local; count = count }
+
 -- what a reading of other fields comes to
 pub record IsTaken (before : Result LinesTaken LineFault) (after : LinesTaken) (loops nodes : ℕ) : Type 0 where
   pub kept : IsKept after loops nodes
@@ -277,26 +281,31 @@ module _ (reads : ℕ) (slots : List Name) (nodes_before : ℕ) (locals : List N
     pub one_fits : nodes + 1 ≤ NODES
     one_fits = few_more 1 for_parts.nodes_more
 
-  module _ (name : Name) (l n : ℕ) (locals' : List Name) (front empty : List StmtValue) (outer' : List OpenLoop)
+  module _ (name : Name) (n : ℕ) (locals' : List Name) (outer' : List OpenLoop) (current' : List StmtValue)
       (fits : for_fits before name n ≡ Ok tt)
-      (number : numbered name locals (index_of name locals) ≡ (l, locals')) (is_front : front ≡ current) (is_empty : empty ≡ [])
-      (pushed : outer' ≡ outer ++ (let o : OpenLoop = record { before = front; local = l; count = n } in o) ∷ []) where
-    for_lines : lines_in outer' empty ≡ lines_in outer current ++ ForLine l n ∷ []
+      (is_locals : locals' ≡ (numbered name locals (index_of name locals)).1)
+      (pushed : outer' ≡ outer ++ opened_loop current (numbered name locals (index_of name locals)).0 n ∷ []) (is_empty : current' ≡ []) where
+    abbrev for_local : ℕ
+    for_local = (numbered name locals (index_of name locals)).0
+
+    for_number : numbered name locals (index_of name locals) ≡ (for_local, locals')
+    for_number = ap (λ (ls : List Name). (for_local, ls)) (sym is_locals)
+
+    for_lines : lines_in outer' current' ≡ lines_in outer current ++ ForLine for_local n ∷ []
     for_lines =
         ap (λ e. lines_in outer' e) is_empty
         ∙ append-nil (outer_lines outer')
         ∙ ap outer_lines pushed
-        ∙ outer_lines-append outer (record { before = front; local = l; count = n })
-        ∙ ap (λ f. outer_lines outer ++ (lines_of (statements_of f) ++ (ForLine l n ∷ []))) is_front
-        ∙ sym (append_assoc (outer_lines outer) (lines_of (statements_of current)) (ForLine l n ∷ []))
+        ∙ outer_lines-append outer (opened_loop current for_local n)
+        ∙ sym (append_assoc (outer_lines outer) (lines_of (statements_of current)) (ForLine for_local n ∷ []))
 
-    pub for_taken : IsTaken (after_for before name n) (taken_by reads slots nodes_before locals' outer' empty) (length outer') (nodes + 1)
+    pub for_taken : IsTaken (after_for before name n) (taken_by reads slots nodes_before locals' outer' current') (length outer') (nodes + 1)
     for_taken =
         let p = for_parts name n fits in
-        let m = local_new name p.local l locals' number in
+        let m = local_new name p.local for_local locals' for_number in
         let r = loop_fits-ok (loops_open (lines_in outer current)) n p.room in
         let longer : length outer' ≡ length outer + 1 = ap (λ (os : List OpenLoop). length os) pushed ∙ length-append outer _ in
-        let next : IsNext reads slots locals locals' (ForLine l n) = record {
+        let next : IsNext reads slots locals locals' (ForLine for_local n) = record {
           order = m.next;
           numbered = m.count;
           few_locals = m.few;
@@ -305,12 +314,12 @@ module _ (reads : ℕ) (slots : List Name) (nodes_before : ℕ) (locals : List N
           count = r.1;
         } in
         record {
-          kept = kept_step reads slots nodes_before locals locals' (lines_in outer current) (lines_in outer' empty) (length outer) (length outer') nodes (nodes + 1) (ForLine l n) k next for_lines longer (omega (arith, longer, r.0, k.loops_counted)) refl (few_more 1 p.nodes_more);
+          kept = kept_step reads slots nodes_before locals locals' (lines_in outer current) (lines_in outer' current') (length outer) (length outer') nodes (nodes + 1) (ForLine for_local n) k next for_lines longer (omega (arith, longer, r.0, k.loops_counted)) refl (few_more 1 p.nodes_more);
           is =
               bind_is (nodes_fit nodes_before (lines_nodes (lines_in outer current)) 1) (λ a. loop_fits (loops_open (lines_in outer current)) n >>= λ b. local_fits locals (index_of name locals) >>= λ d. Ok (with_numbered before name (λ j. ForLine j n))) tt _ p.nodes_more
               (bind_is (loop_fits (loops_open (lines_in outer current)) n) (λ b. local_fits locals (index_of name locals) >>= λ d. Ok (with_numbered before name (λ j. ForLine j n))) tt _ p.room
               (bind_is (local_fits locals (index_of name locals)) (λ d. Ok (with_numbered before name (λ j. ForLine j n))) tt _ p.local
-              (ap (λ (p : ℕ × List Name). ok_of (with_line before p.1 (ForLine p.0 n))) number
+              (ap (λ (p : ℕ × List Name). ok_of (with_line before p.1 (ForLine p.0 n))) for_number
               ∙ ap (λ ls. ok_of (at_lines reads slots nodes_before locals' ls)) (sym for_lines))));
         }
 

@@ -158,13 +158,14 @@ impl Reading {
         ensures { Answers (λ r. r) result (after_for self name count) }
     {
         self.fit_for(name, count)?;
-        let local = number(&mut self.locals, name)?;
-        let before = mem::replace(&mut self.current, Items::new(alloc));
-        self.outer.push(OpenLoop {
-            before,
-            local,
+        push_for(
+            alloc,
+            &mut self.locals,
+            &mut self.outer,
+            &mut self.current,
+            name,
             count,
-        })?;
+        )?;
         self.nodes += 1;
         Ok(self)
     }
@@ -183,6 +184,7 @@ impl Reading {
         ensures { Answers (λ r. r) result (after_done self) }
     {
         let Some(open) = self.outer.pop() else {
+            drop(self);
             return Err(LineFault::Text);
         };
         let OpenLoop {
@@ -238,9 +240,11 @@ impl Reading {
         ensures { IsEnd self result }
     {
         if !self.outer.is_empty() {
+            drop(self);
             return Err(LineFault::Text);
         }
         if capped_work(self.current.as_slice()) > Limits::WORK {
+            drop(self);
             return Err(LineFault::Limit {
                 which: Quantity::Work,
             });
@@ -330,4 +334,32 @@ fn push_set(
 {
     let local = number(locals, name)?;
     current.push(Stmt::Set(local, value))
+}
+
+// Opens a loop, whose local gets the next number where it has none.
+fn push_for(
+    alloc: Global,
+    locals: &mut NameList,
+    outer: &mut Items<OpenLoop>,
+    current: &mut Items<Stmt>,
+    name: Name,
+    count: u64,
+) -> Result<(), AllocError>
+    requires { length locals.old ≤ Limits.LOCALS }
+    ensures locals { OnOk result (locals.new
+        ≡ (numbered name locals.old (index_of name locals.old)).1) }
+    ensures outer { OnOk result (outer.new ≡ outer.old ++ record {
+      before = current.old;
+      local = (numbered name locals.old (index_of name locals.old)).0;
+      count = count;
+    } ∷ []) }
+    ensures current { OnOk result (current.new ≡ []) }
+{
+    let local = number(locals, name)?;
+    let before = mem::replace(current, Items::new(alloc));
+    outer.push(OpenLoop {
+        before,
+        local,
+        count,
+    })
 }
