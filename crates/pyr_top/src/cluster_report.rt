@@ -20,14 +20,36 @@ pub fn cluster_report(
     ensures { IfOk result (λ text. text.items ≡ cluster_report program.now clustering.now) }
 {
     let mut text = Vec::new(alloc);
-    put_figure(&mut text, b"pt", clustering.first)?;
-    text.extend_from_slice(b"\n")?;
-    for step in clustering.steps.as_slice() {
-        put_step(&mut text, program, step)?;
-    }
-    put_figure(&mut text, b"clusters", clustering.clusters.len() as u64)?;
-    text.extend_from_slice(b"\n")?;
+    put_report(&mut text, program, clustering)?;
     Ok(text)
+}
+
+fn put_report(
+    text: &mut Vec<u8>,
+    program: &Program,
+    clustering: &Clustering,
+) -> Result<(), AllocError>
+    requires { All (λ step. step.task.0 < task_count program.now.graph) clustering.now.steps }
+    ensures { OnOk result (text.new.items
+        ≡ text.old.items ++ cluster_report program.now clustering.now) }
+{
+    put_figure(text, b"pt", clustering.first)?;
+    text.extend_from_slice(b"\n")?;
+    put_steps(text, program, clustering.steps.as_slice())?;
+    put_figure(text, b"clusters", clustering.clusters.len() as u64)?;
+    text.extend_from_slice(b"\n")
+}
+
+// A line for each step.
+fn put_steps(text: &mut Vec<u8>, program: &Program, steps: &[Step]) -> Result<(), AllocError>
+    requires { All (λ step. step.task.0 < task_count program.now.graph) steps.now }
+    ensures { OnOk result (text.new.items
+        ≡ text.old.items ++ flat_map (step_line program.now) steps.now) }
+{
+    for step in steps {
+        put_step(text, program, step)?;
+    }
+    Ok(())
 }
 
 fn put_step(text: &mut Vec<u8>, program: &Program, step: &Step) -> Result<(), AllocError>
