@@ -15,7 +15,7 @@ use std::marker::Model;
 /// The slots and locals that the statements name exist. The names of the locals differ, and locals
 /// are numbered in the order of their first `set` or `for`; an expression reads a local only behind
 /// it. The statements are within the limits of one body: depth, nodes, loops, count, locals, work.
-#[derive(Debug, Drop)]
+#[derive(Drop)]
 pub struct Body {
     statements: Items<Stmt>,
     locals: NameList,

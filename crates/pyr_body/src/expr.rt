@@ -3,7 +3,7 @@ use pyr_num::Bin;
 use sqlite_items::Boxed;
 
 /// An expression. Its value is one word, a number of 64 bits without a sign.
-#[derive(Debug, Drop)]
+#[derive(Drop)]
 pub enum Expr {
     /// This word.
     Num(u64),

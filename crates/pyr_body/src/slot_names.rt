@@ -2,7 +2,7 @@
 use pyr_num::NameList;
 
 /// The names of the data that a task reads and writes, in the order of its slots.
-#[derive(Debug, Drop)]
+#[derive(Drop)]
 pub struct SlotNames {
     /// The data that it reads: the first slots.
     pub reads: NameList,

@@ -3,7 +3,7 @@ use crate::Expr;
 use sqlite_items::Items;
 
 /// A statement.
-#[derive(Debug, Drop)]
+#[derive(Drop)]
 pub enum Stmt {
     /// Sets a local to the value of an expression.
     Set(u32, Expr),

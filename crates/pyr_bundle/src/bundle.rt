@@ -14,7 +14,7 @@ use std::marker::Model;
 
 /// A program for each processor, with bounded channels between them: a bundle within the limits
 /// that keeps every law. Contracts see its parts.
-#[derive(Debug, Drop)]
+#[derive(Drop)]
 pub struct Bundle {
     datums: Items<RawDatum>,
     tasks: Items<BundleTask>,

@@ -1,7 +1,7 @@
 use pyr_num::{DatumId, ProcId, TaskId};
 
 /// An instruction of a processor.
-#[derive(Clone, Copy, Debug, PartialEq, Eq)]
+#[derive(Clone, Copy, PartialEq, Eq)]
 pub enum Instr {
     /// Waits for a datum from another processor.
     Recv { from: ProcId, datum: DatumId },

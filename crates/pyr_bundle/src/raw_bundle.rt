@@ -5,7 +5,7 @@ use sqlite_items::Items;
 
 /// The parts of a bundle as they are handed in: numbers that name data, tasks and processors may
 /// name none.
-#[derive(Debug, Drop)]
+#[derive(Drop)]
 pub struct RawBundle {
     pub datums: Items<RawDatum>,
     pub tasks: Items<RawTask>,

@@ -2,7 +2,7 @@ ghost use Rattle.std.specs.Prelude.{◌≡◌};
 ghost use Rattle.pyr_bundle.specs.Tables.{received, executed, sent};
 
 /// An instruction as it is handed in.
-#[derive(Clone, Copy, Debug, PartialEq, Eq)]
+#[derive(Clone, Copy, PartialEq, Eq)]
 pub enum RawInstr {
     /// Waits for a datum from a processor.
     Recv { from: u64, datum: u64 },

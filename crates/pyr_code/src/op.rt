@@ -2,7 +2,7 @@ use pyr_num::Bin;
 use sqlite_items::Items;
 
 /// An op of stack code. Words are numbers of 64 bits without a sign.
-#[derive(Debug, Drop)]
+#[derive(Drop)]
 pub enum Op {
     /// Pushes this word.
     Push(u64),

@@ -1,5 +1,5 @@
 /// What code may name: inputs that are read, outputs that are written, and locals.
-#[derive(Clone, Copy, Debug, PartialEq, Eq)]
+#[derive(Clone, Copy, PartialEq, Eq)]
 pub struct Shape {
     pub reads: u32,
     pub writes: u32,

@@ -16,7 +16,7 @@ use std::marker::Model;
 
 /// Code that was checked once, and never goes wrong: well-formed for its shape, and within the
 /// limits. Contracts see the ops and the shape.
-#[derive(Debug, Drop)]
+#[derive(Drop)]
 pub struct Verified {
     ops: Items<Op>,
     shape: Shape,

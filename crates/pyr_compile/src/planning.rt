@@ -12,7 +12,7 @@ use pyr_rcp::order;
 use std::alloc::{AllocError, Global};
 
 /// When and where the tasks of a graph run.
-#[derive(Debug, Drop)]
+#[derive(Drop)]
 pub struct Planned {
     /// The processor of each task.
     pub placement: Placement,

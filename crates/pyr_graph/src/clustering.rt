@@ -3,7 +3,7 @@ use pyr_num::{TaskId, TaskList};
 use sqlite_items::Items;
 
 /// One step of a clustering algorithm: a task is examined and put at the end of a cluster.
-#[derive(Clone, Copy, Debug, PartialEq, Eq)]
+#[derive(Clone, Copy, PartialEq, Eq)]
 pub struct Step {
     /// The task that is examined.
     pub task: TaskId,
@@ -16,7 +16,7 @@ pub struct Step {
 }
 
 /// The run of a clustering algorithm, for any number of processors.
-#[derive(Debug, Drop)]
+#[derive(Drop)]
 pub struct Clustering {
     /// The estimated parallel time before the first step, in abstract time units.
     pub first: u64,

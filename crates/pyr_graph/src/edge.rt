@@ -2,7 +2,7 @@
 use pyr_num::TaskId;
 
 /// An edge from or to a task that the place of use tells.
-#[derive(Clone, Copy, Debug, PartialEq, Eq)]
+#[derive(Clone, Copy, PartialEq, Eq)]
 pub struct Edge {
     /// The task at the other end.
     pub task: TaskId,

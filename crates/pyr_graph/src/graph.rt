@@ -16,7 +16,7 @@ use std::marker::Model;
 
 /// A task graph within the limits, without a cycle, in which one task writes each datum. Contracts
 /// see it as its tasks, its data and its prints.
-#[derive(Debug, Drop)]
+#[derive(Drop)]
 pub struct Graph {
     tasks: Items<TaskParts>,
     datums: Items<DatumParts>,

@@ -16,7 +16,7 @@ use sqlite_items::Items;
 use std::alloc::Global;
 
 /// What a graph keeps beside its parts.
-#[derive(Debug, Drop)]
+#[derive(Drop)]
 pub(crate) struct Index {
     /// The task that writes each datum.
     pub(crate) writers: Items<TaskId>,

@@ -3,7 +3,7 @@ use pyr_num::DatumId;
 use sqlite_items::Items;
 
 /// A task as it is handed in.
-#[derive(Debug, Drop)]
+#[derive(Drop)]
 pub struct TaskParts {
     /// The computation weight, in abstract time units: from `Limits::LEAST_COST` to `Limits::COST`.
     pub cost: u32,
@@ -14,7 +14,7 @@ pub struct TaskParts {
 }
 
 /// A datum as it is handed in.
-#[derive(Clone, Copy, Debug, PartialEq, Eq)]
+#[derive(Clone, Copy, PartialEq, Eq)]
 pub struct DatumParts {
     /// The number of its words: from `Limits::LEAST_LENGTH` to `Limits::LENGTH`.
     pub length: u32,

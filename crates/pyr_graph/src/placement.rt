@@ -3,7 +3,7 @@ use pyr_num::ProcId;
 use sqlite_items::Items;
 
 /// A processor for each task.
-#[derive(Debug, Drop)]
+#[derive(Drop)]
 pub struct Placement {
     /// The number of processors.
     pub processors: u32,

@@ -3,7 +3,7 @@ use pyr_num::TaskList;
 use sqlite_items::Items;
 
 /// An order of all tasks with their times, on the processors of a placement.
-#[derive(Debug, Drop)]
+#[derive(Drop)]
 pub struct Plan {
     /// The tasks in the order in which they were placed.
     pub order: TaskList,

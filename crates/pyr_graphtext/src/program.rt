@@ -15,7 +15,7 @@ use std::marker::Model;
 /// The names of the data differ, and so do those of the tasks. A body has the slots of its task:
 /// the data that it reads, and then those that it writes. All bodies together are within
 /// `Limits::ALL_NODES` and `Limits::ALL_WORK`.
-#[derive(Debug, Drop)]
+#[derive(Drop)]
 pub struct Program {
     graph: Graph,
     datum_names: NameList,

@@ -16,7 +16,7 @@ use std::marker::Model;
 /// how many calls were made, and the number of the call that used up the room. Its faults are the
 /// calls so far that were to fail or came after that one; a counter of calls at its last value stands
 /// for as many faults.
-#[derive(Debug, Drop)]
+#[derive(Drop)]
 pub struct MemorySink {
     bytes: Vec<u8>,
     room: usize,

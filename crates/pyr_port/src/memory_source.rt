@@ -13,7 +13,7 @@ use std::marker::Model;
 /// A source of bytes in memory. Contracts see the bytes that are left, the plan, and how many calls
 /// were made. Its faults are the calls so far that were to fail; a counter of calls at its last
 /// value stands for as many faults.
-#[derive(Debug, Drop)]
+#[derive(Drop)]
 pub struct MemorySource {
     bytes: Vec<u8>,
     at: usize,

@@ -3,7 +3,7 @@ ghost use Rattle.std.specs.Prelude.{◌≡◌, ◌-◌, ◌+◌, ◌^◌, ◌≤
 ghost use Rattle.pyr_port.specs.Plans.{is_planned, next_call};
 
 /// How a source or a sink in memory answers its calls.
-#[derive(Debug, Drop)]
+#[derive(Drop)]
 pub struct CallPlan {
     /// The most bytes that one call moves, at least 1.
     pub most: usize,

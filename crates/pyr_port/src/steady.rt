@@ -9,7 +9,7 @@ use crate::{Failed, Sink, Source};
 use std::marker::Model;
 
 /// A source of bytes in memory that never fails. Contracts see the bytes that are left.
-#[derive(Debug, Drop)]
+#[derive(Drop)]
 pub struct SteadySource {
     bytes: Vec<u8>,
     at: usize,
@@ -57,7 +57,7 @@ impl Source for SteadySource {
 }
 
 /// A sink that takes everything, tells nothing and never fails.
-#[derive(Clone, Copy, Debug)]
+#[derive(Clone, Copy)]
 pub struct NullSink;
 
 impl Sink for NullSink {

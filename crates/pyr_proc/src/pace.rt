@@ -12,7 +12,7 @@ pub trait Pace: Sync {
 }
 
 /// Lets every worker start, and does nothing before a task.
-#[derive(Clone, Copy, Debug, PartialEq, Eq)]
+#[derive(Clone, Copy, PartialEq, Eq)]
 pub struct Free;
 
 impl Pace for Free {

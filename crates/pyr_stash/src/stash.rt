@@ -8,7 +8,7 @@ use std::marker::Model;
 
 /// Parcels in the order in which they were put, with room for a fixed number of them. Contracts see
 /// the list of the parcels, the oldest first, and how many more there is room for.
-#[derive(Debug, Drop)]
+#[derive(Drop)]
 pub struct Stash {
     parcels: Vec<Parcel>,
     capacity: u32,

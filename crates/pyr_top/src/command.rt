@@ -7,7 +7,7 @@ use pyr_lex::number;
 use pyr_num::Limits;
 
 /// What the program is asked to do.
-#[derive(Clone, Copy, Debug)]
+#[derive(Clone, Copy)]
 pub enum Command {
     /// Runs the tasks of a graph text one by one, and prints the printed data.
     Seq,

@@ -10,7 +10,7 @@ use pyr_port::{ReadFault, SinkFault};
 use std::alloc::AllocError;
 
 /// Why a command isn't answered.
-#[derive(Debug, Drop)]
+#[derive(Drop)]
 pub enum Refusal {
     /// The words are no command.
     Usage,

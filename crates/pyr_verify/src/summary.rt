@@ -1,7 +1,7 @@
 // The summary.
 
 /// What came of a generated graph that was compiled and run.
-#[derive(Clone, Copy, Debug, PartialEq, Eq)]
+#[derive(Clone, Copy, PartialEq, Eq)]
 pub struct Summary {
     /// The number of tasks.
     pub tasks: u32,

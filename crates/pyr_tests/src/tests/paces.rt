@@ -59,7 +59,7 @@ impl Flags {
 }
 
 // Refuses the start of one processor.
-#[derive(Clone, Copy, Debug)]
+#[derive(Clone, Copy)]
 struct Refusing {
     refused: ProcId,
 }
