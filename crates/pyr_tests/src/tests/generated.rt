@@ -30,3 +30,13 @@ fn verify_make_tells_a_summary(rt: HostRuntime) -> Result<(), Fail> {
     assert!(rt; gives(&rt, rt.alloc(), &["verify-make", "2", "2"], b"", summary)?);
     Ok(())
 }
+
+// As compiled it takes a second; stepped by `rt try`, more than two minutes.
+#[test]
+fn verify_make_ends_on_the_largest_graph(rt: HostRuntime) -> Result<(), Fail> {
+    let words = ["verify-make", "4096", "64"];
+    let summary = b"tasks 4096\nprocessors 64\nmessages 5093\nsteps 19375\ntime 9736\n\
+sum 14347467612885118304\n";
+    assert!(rt; gives(&rt, rt.alloc(), &words, b"", summary)?);
+    Ok(())
+}
