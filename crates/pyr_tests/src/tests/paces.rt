@@ -4,8 +4,11 @@ ghost use Rattle.std.specs.Prelude.{◌<◌};
 use crate::tests::bundles::HEAVY_BUNDLE;
 use crate::tests::call::{Call, output};
 use crate::tests::graphs::ELIMINATION;
-use pyr_num::{ProcId, TaskId};
-use pyr_proc::Pace;
+use pyr_loader::load;
+use pyr_machine::Loaded;
+use pyr_num::{DatumId, Limits, ProcId, TaskId};
+use pyr_proc::{Pace, Processor};
+use pyr_team::{Team, run_team};
 use pyr_top::Status;
 use std::alloc::{AllocError, Global};
 use std::sync::Wait;
@@ -106,4 +109,67 @@ fn a_refused_start_is_made_up_for(rt: HostRuntime) -> Result<(), Fail> {
         assert!(rt; prints_at(&rt, rt.alloc(), &pace, &bundle, &printed)?);
     }
     Ok(())
+}
+
+// The first word of `w` at a processor.
+fn word_at(ran: &[Processor<'_>], p: usize) -> Option<u64> {
+    ran.get(p)?.words(DatumId(3))?.first().copied()
+}
+
+// Whether both processors have run: only the second has `w`, and it is 10.
+fn have_run(ran: &[Processor<'_>]) -> bool {
+    ran.len() == 2 && word_at(ran, 0).is_none() && word_at(ran, 1) == Some(10)
+}
+
+// Whether just `w` is printed, and it is 10.
+fn prints_ten(team: &Team<'_>) -> bool {
+    let lists = team.outputs.lists.as_slice();
+    lists.len() == 1 && lists[0].as_slice() == [10].as_slice()
+}
+
+// Whether the team prints 10, and hands back its processors, or none of them.
+fn is_run(team: &Team<'_>, by_processors: bool) -> bool {
+    let handed_back = if by_processors {
+        have_run(&team.ran)
+    } else {
+        team.ran.is_empty()
+    };
+    handed_back && prints_ten(team)
+}
+
+// The same of the team of a loaded bundle, run at this pace.
+fn runs<P: Pace, R: Threads + Wait + Sync>(
+    rt: &R,
+    alloc: Global,
+    loaded: &Loaded,
+    pace: &P,
+    by_processors: bool,
+) -> Result<bool, AllocError> {
+    let processors = Processor::make(rt, alloc, loaded, 1)?;
+    let team = run_team(rt, alloc, loaded, processors, pace)?;
+    Ok(is_run(&team, by_processors))
+}
+
+// The same of the team of the heavy diamond.
+fn runs_diamond<P: Pace, R: Threads + Wait + Sync>(
+    rt: &R,
+    alloc: Global,
+    pace: &P,
+    by_processors: bool,
+) -> bool {
+    if HEAVY_BUNDLE.len() > Limits::INPUT {
+        return false;
+    }
+    match load(alloc, HEAVY_BUNDLE) {
+        Ok(loaded) => runs(rt, alloc, &loaded, pace, by_processors) == Ok(true),
+        Err(_) => false,
+    }
+}
+
+#[test]
+fn a_team_hands_back_what_ran(rt: HostRuntime) {
+    let flags = Flags::new();
+    assert!(rt; runs_diamond(&rt, rt.alloc(), &flags, true));
+    let pace = Refusing { refused: ProcId(1) };
+    assert!(rt; runs_diamond(&rt, rt.alloc(), &pace, false));
 }
