@@ -5,13 +5,11 @@ use Rattle.std.proofs.lemmas.List.Elements.{All-head, All-tail}
 use Rattle.std.proofs.lemmas.List.FromFn.{length-map-range_with_len, get_or-map-range_with_len}
 use Rattle.pyr_num.specs.declared.ids.DatumId.{DatumId}
 use Rattle.pyr_num.specs.declared.name.Name.{Name}
-use Rattle.pyr_seq.specs.Sequential.{outputs_of}
 use Rattle.pyr_graph.specs.System.{datum_count, datum_numbers}
-use Rattle.pyr_graphtext.specs.Program.{ProgramParts, datum_name, tasks_of}
-use Rattle.pyr_graphtext.specs.Sequential.{IsOrder}
+use Rattle.pyr_graphtext.specs.Program.{ProgramParts, datum_name}
 use Rattle.pyr_bundle.specs.declared.raw_datum.RawDatum.{RawDatum}
 use Rattle.pyr_bundle.specs.Parts.{Parts, IsBundle, raw_of, datum_at}
-use Rattle.pyr_bundle.specs.Values.{IsOrderOf, printed}
+use Rattle.pyr_bundle.specs.Values.{printed}
 use Rattle.pyr_machine.specs.Good.{Loads}
 use Rattle.pyr_machine.proofs.Output.{prints_below}
 use Rattle.pyr_emit.specs.Emission.{datum_of, datums_of}
@@ -20,7 +18,7 @@ use Rattle.pyr_compile.specs.Compiled.{IsCompiled}
 use Rattle.pyr_loader.specs.Laws.{OneAnswerIsTold}
 use Rattle.pyr_loader.proofs.OneAnswer.{one_answer}
 use Rattle.pyr_verify.proofs.SummaryLemmas.{printed_is}
-use Rattle.pyr_top.specs.OutputsText.{output_lines, printed_names, outputs_text, bundle_names, bundle_outputs}
+use Rattle.pyr_top.specs.OutputsText.{output_lines, printed_names, outputs_text, bundle_names}
 use Rattle.pyr_top.specs.Answers.{IsPrinted, IsRunOutput, IsTextFor, IsTextOfLoaded}
 use Rattle.pyr_top.specs.Headline.{PrintsTheSame, RunsSafely, CompilesSafely}
 use Rattle.pyr_graphtext.specs.Answer.{StandsFor}

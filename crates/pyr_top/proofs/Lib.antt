@@ -6,4 +6,6 @@ pub mod LoadLemmas
 pub mod CompiledLemmas
 pub mod OneCommand
 pub mod OneAnswer
+pub mod ValidLemmas
 pub mod Answering
+pub mod Calling

@@ -1,5 +1,5 @@
 -- A compiled bundle is one that the loader accepts, and what the run of a loaded one prints.
-use Rattle.std.proofs.Common.{◌≡◌, ◌≤◌, ℕ, List, [], ◌∷◌, length, map, refl, sym, ap, ◌∙◌, subst}
+use Rattle.std.proofs.Common.{◌≡◌, ◌≤◌, ℕ, List, length, map, ap, ◌∙◌}
 use Rattle.std.proofs.lemmas.List.{length-map}
 use Rattle.pyr_num.specs.declared.limits.TheConstants.Limits.{INPUT}
 use Rattle.pyr_num.specs.declared.ids.DatumId.{DatumId}
@@ -13,7 +13,7 @@ use Rattle.pyr_loader.specs.Answer.{IsLoadOf}
 use Rattle.pyr_loader.specs.Safe.{IsSafe}
 use Rattle.pyr_loader.proofs.Safety.{safe}
 use Rattle.pyr_seq.specs.Sequential.{value_of}
-use Rattle.pyr_bundle.specs.Values.{IsOrderOf, tasks_of, printed}
+use Rattle.pyr_bundle.specs.Values.{tasks_of, printed}
 use Rattle.pyr_team.specs.Team.{Prints}
 use Rattle.pyr_top.specs.OutputsText.{bundle_outputs}
 use Rattle.pyr_top.specs.Answers.{IsRunOutput}

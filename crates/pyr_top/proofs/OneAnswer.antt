@@ -1,5 +1,5 @@
 -- The defined answer is one.
-use Rattle.std.proofs.Common.{◌≡◌, ◌⊎◌, ◌<◌, map, inl, inr, ℕ, List, Result, Ok, Err, length, sym, ap, subst, ◌∙◌, arith}
+use Rattle.std.proofs.Common.{◌≡◌, ◌≢◌, ◌⊎◌, ◌<◌, refl, map, inl, inr, ℕ, List, Result, Ok, Err, length, sym, ap, subst, ◌∙◌, arith}
 use Rattle.std.proofs.lemmas.Bool.{cases_lt, cases_order}
 use Rattle.pyr_num.specs.declared.limits.TheConstants.Limits.{INPUT}
 use Rattle.pyr_top.specs.declared.command.Command.{Command}
@@ -11,14 +11,18 @@ use Rattle.pyr_seq.proofs.SequentialLemmas.{outputs-same}
 use Rattle.pyr_graph.specs.System.{datum_numbers}
 use Rattle.pyr_graph.specs.Faults.{IsSound}
 use Rattle.pyr_graphtext.specs.Program.{ProgramParts, tasks_of}
-use Rattle.pyr_graphtext.specs.Answer.{StandsFor}
+use Rattle.pyr_graphtext.specs.declared.program_fault.ProgramFault.{ProgramFault}
+use Rattle.pyr_graphtext.specs.declared.program_fault.ProgramFault.TheVariants as faults
+use Rattle.pyr_graphtext.specs.Answer.{StandsFor, IsFaultOf}
 use Rattle.pyr_graphtext.proofs.OneAnswer.{one_answer_is_told}
 use Rattle.pyr_compile.proofs.UniqueLemmas.{one_text}
 use Rattle.pyr_num.specs.declared.ids.DatumId.{DatumId}
 use Rattle.pyr_bundle.specs.Values.{tasks_of as tasks_of_bundle}
 use Rattle.pyr_bundle.proofs.ValueLemmas.{has_one_writer}
 use Rattle.pyr_machine.specs.Good.{Loads}
-use Rattle.pyr_loader.specs.Answer.{IsLoadOf}
+use Rattle.pyr_loader.specs.declared.load_fault.LoadFault.{LoadFault}
+use Rattle.pyr_loader.specs.declared.load_fault.LoadFault.TheVariants as loads
+use Rattle.pyr_loader.specs.Answer.{IsLoadOf, IsRefusal}
 use Rattle.pyr_loader.specs.Laws.{OneAnswerIsTold}
 use Rattle.pyr_loader.proofs.OneAnswer.{one_answer as one_load_answer, is_bundle}
 use Rattle.pyr_verify.specs.declared.summary.Summary.{Summary}
@@ -51,31 +55,28 @@ one_print p a b sound first second =
     ∙ ap (outputs_text p) (outputs-same (tasks_of p 0) first.order second.order (one_writer p 0 sound) first.ordered second.ordered (datum_numbers p.graph.prints))
     ∙ sym second.text
 
--- a text is refused in one way
+-- a graph text is refused by a fault
+program_fault : (input : List ℕ) (refusal : Refusal) → RefusesProgram input refusal → (fault : ProgramFault) × (refusal ≡ Program fault) × (fault ≢ faults.Memory) × IsFaultOf input fault
+program_fault input (Program fault) refuses = (fault, refl, refuses.0, refuses.1)
+program_fault input (Load fault) refuses = absurd refuses
+program_fault input Usage refuses = absurd refuses
+program_fault input Source refuses = absurd refuses
+program_fault input Sink refuses = absurd refuses
+program_fault input Memory refuses = absurd refuses
+program_fault input TooLong refuses = absurd refuses
+
+-- in one way
 one_refusal : (input : List ℕ) (a b : Refusal) → RefusesProgram input a → RefusesProgram input b → a ≡ b
-one_refusal input (Program f) (Program g) first second = ap Program (one_answer_is_told.one_fault input f g first.0 second.0 first.1 second.1)
-one_refusal input (Program f) Usage first second = absurd second
-one_refusal input (Program f) Source first second = absurd second
-one_refusal input (Program f) Sink first second = absurd second
-one_refusal input (Program f) Memory first second = absurd second
-one_refusal input (Program f) TooLong first second = absurd second
-one_refusal input (Program f) (Load g) first second = absurd second
-one_refusal input (Load f) b first second = absurd first
-one_refusal input Usage b first second = absurd first
-one_refusal input Source b first second = absurd first
-one_refusal input Sink b first second = absurd first
-one_refusal input Memory b first second = absurd first
-one_refusal input TooLong b first second = absurd first
+one_refusal input a b first second =
+    let (f, is_f, some_f, of_f) = program_fault input a first in
+    let (g, is_g, some_g, of_g) = program_fault input b second in
+    is_f ∙ ap Program (one_answer_is_told.one_fault input f g some_f some_g of_f of_g) ∙ sym is_g
 
 -- and not where it stands for a program
-stands_or_refuses : (input : List ℕ) (p : ProgramParts) (r : Refusal) → StandsFor input p → RefusesProgram input r → ⊥
-stands_or_refuses input p (Program f) stands refuses = one_answer_is_told.not_both input p f refuses.0 stands refuses.1
-stands_or_refuses input p Usage stands refuses = refuses
-stands_or_refuses input p Source stands refuses = refuses
-stands_or_refuses input p Sink stands refuses = refuses
-stands_or_refuses input p Memory stands refuses = refuses
-stands_or_refuses input p TooLong stands refuses = refuses
-stands_or_refuses input p (Load f) stands refuses = refuses
+pub stands_or_refuses : (input : List ℕ) (p : ProgramParts) (r : Refusal) → StandsFor input p → RefusesProgram input r → ⊥
+stands_or_refuses input p r stands refuses =
+    let (fault, is_fault, some, of_fault) = program_fault input r refuses in
+    one_answer_is_told.not_both input p fault some stands of_fault
 
 -- where a program has one such text, a graph text has one
 one_text_for : (IsText : ProgramParts → List ℕ → Type 0) (input a b : List ℕ) → ((p : ProgramParts) → IsSound p.graph → IsText p a → IsText p b → a ≡ b) → IsTextFor IsText input a → IsTextFor IsText input b → a ≡ b
@@ -96,30 +97,28 @@ one_text_given IsText input (Err r) (Err q) unique first second = ap Err (one_re
 one_bundle_text : (processors : ℕ) (p : ProgramParts) (a b : List ℕ) → IsBundleText processors p a → IsBundleText processors p b → a ≡ b
 one_bundle_text processors p a b first second = first.text.written ∙ one_text p processors first.raw second.raw first.compiled second.compiled ∙ sym second.text.written
 
--- a bundle text is accepted or refused in one way
-one_fault : (input : List ℕ) (a b : Refusal) → RefusesBundle input a → RefusesBundle input b → a ≡ b
-one_fault input (Load f) (Load g) first second = ap Load (loading.one_refusal input f g first.0 second.0 first.1 second.1)
-one_fault input (Load f) Usage first second = absurd second
-one_fault input (Load f) Source first second = absurd second
-one_fault input (Load f) Sink first second = absurd second
-one_fault input (Load f) Memory first second = absurd second
-one_fault input (Load f) TooLong first second = absurd second
-one_fault input (Load f) (Program g) first second = absurd second
-one_fault input Usage b first second = absurd first
-one_fault input Source b first second = absurd first
-one_fault input Sink b first second = absurd first
-one_fault input Memory b first second = absurd first
-one_fault input TooLong b first second = absurd first
-one_fault input (Program f) b first second = absurd first
+-- a bundle text is refused by a fault
+load_fault : (input : List ℕ) (refusal : Refusal) → RefusesBundle input refusal → (fault : LoadFault) × (refusal ≡ Load fault) × (fault ≢ loads.Memory) × IsRefusal input fault
+load_fault input (Program fault) refuses = absurd refuses
+load_fault input (Load fault) refuses = (fault, refl, refuses.0, refuses.1)
+load_fault input Usage refuses = absurd refuses
+load_fault input Source refuses = absurd refuses
+load_fault input Sink refuses = absurd refuses
+load_fault input Memory refuses = absurd refuses
+load_fault input TooLong refuses = absurd refuses
 
-loaded_or_refused : (input : List ℕ) (l : Loads) (r : Refusal) → IsLoadOf input l → RefusesBundle input r → ⊥
-loaded_or_refused input l (Load f) is refuses = loading.not_both input l f refuses.0 is refuses.1
-loaded_or_refused input l Usage is refuses = refuses
-loaded_or_refused input l Source is refuses = refuses
-loaded_or_refused input l Sink is refuses = refuses
-loaded_or_refused input l Memory is refuses = refuses
-loaded_or_refused input l TooLong is refuses = refuses
-loaded_or_refused input l (Program f) is refuses = refuses
+-- in one way
+one_fault : (input : List ℕ) (a b : Refusal) → RefusesBundle input a → RefusesBundle input b → a ≡ b
+one_fault input a b first second =
+    let (f, is_f, some_f, of_f) = load_fault input a first in
+    let (g, is_g, some_g, of_g) = load_fault input b second in
+    is_f ∙ ap Load (loading.one_refusal input f g some_f some_g of_f of_g) ∙ sym is_g
+
+-- and not where it is accepted
+pub loaded_or_refused : (input : List ℕ) (l : Loads) (r : Refusal) → IsLoadOf input l → RefusesBundle input r → ⊥
+loaded_or_refused input l r loaded refuses =
+    let (fault, is_fault, some, of_fault) = load_fault input r refuses in
+    loading.not_both input l fault some loaded of_fault
 
 -- where a loaded bundle has one such text, a bundle text has one
 one_text_of : (IsText : Loads → List ℕ → Type 0) (input a b : List ℕ) → ((l : Loads) → IsLoadOf input l → IsText l a → IsText l b → a ≡ b) → IsTextOfLoaded IsText input a → IsTextOfLoaded IsText input b → a ≡ b

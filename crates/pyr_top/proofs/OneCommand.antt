@@ -1,41 +1,36 @@
 -- Words ask for one command.
-use Rattle.std.proofs.Common.{◌≡◌, ◌<◌, ◌^◌, ℕ, List, [], ◌∷◌, Option, None, unwrap_or, if◌then◌else◌, sym, ap, ◌∙◌, arith}
-use Rattle.std.specs.Prelude.{nat_eq, decimal, slice_index_or}
+use Rattle.std.proofs.Common.{◌≡◌, ◌<◌, ◌^◌, ℕ, List, [], ◌∷◌, Option, unwrap_or, if◌then◌else◌, sym, ap, ◌∙◌, arith}
+use Rattle.std.specs.Prelude.{codes, decimal, bytes_eq}
 use Rattle.pyr_lex.specs.Number.{number_of}
 use Rattle.pyr_lex.proofs.Numbers.{number_of-decimal}
 use Rattle.pyr_top.specs.declared.command.Command.{Command}
 use Rattle.pyr_top.specs.declared.command.Command.TheVariants.{Seq, Cluster, Compile, Gantt, Check, Run, Make, VerifyMake}
 use Rattle.pyr_top.specs.Commands.{Spells}
 
--- two bytes of the first word, and the numbers that the second and the third word write
-abbrev byte_of : ℕ → List (List ℕ) → ℕ
-byte_of i [] = 0
-byte_of i (word ∷ words) = slice_index_or word i 0
+-- the numbers that the first and the second of these words write
+abbrev first_number : List (List ℕ) → ℕ
+first_number [] = 0
+first_number (text ∷ words) = unwrap_or (number_of text) 0
 
-abbrev second_number : List (List ℕ) → Option ℕ
-second_number [] = None
-second_number (word ∷ []) = None
-second_number (word ∷ text ∷ words) = number_of text
+abbrev second_number : List (List ℕ) → ℕ
+second_number [] = 0
+second_number (text ∷ words) = first_number words
 
-abbrev third_number : List (List ℕ) → Option ℕ
-third_number [] = None
-third_number (word ∷ []) = None
-third_number (word ∷ text ∷ words) = second_number (text ∷ words)
-
--- the command that these tell
-abbrev told_by : ℕ → ℕ → Option ℕ → Option ℕ → Command
-told_by first second number other =
-    if nat_eq first 115 then Seq
-    else if nat_eq first 109 then Make (unwrap_or number 0)
-    else if nat_eq first 114 then Run
-    else if nat_eq first 118 then VerifyMake (unwrap_or number 0) (unwrap_or other 0)
-    else if nat_eq first 103 then Gantt (unwrap_or number 0)
-    else if nat_eq second 108 then Cluster
-    else if nat_eq second 104 then Check
-    else Compile (unwrap_or number 0)
+-- the command that a first word and those that come after it tell
+abbrev told_by : List ℕ → List (List ℕ) → Command
+told_by first rest =
+    if bytes_eq first (codes "cluster") then Cluster
+    else if bytes_eq first (codes "compile") then Compile (first_number rest)
+    else if bytes_eq first (codes "gantt") then Gantt (first_number rest)
+    else if bytes_eq first (codes "check") then Check
+    else if bytes_eq first (codes "run") then Run
+    else if bytes_eq first (codes "make") then Make (first_number rest)
+    else if bytes_eq first (codes "verify-make") then VerifyMake (first_number rest) (second_number rest)
+    else Seq
 
 abbrev told_words : List (List ℕ) → Command
-told_words words = told_by (byte_of 0 words) (byte_of 1 words) (second_number words) (third_number words)
+told_words [] = Seq
+told_words (first ∷ rest) = told_by first rest
 
 number_told : (n : ℕ) → n < 2 ^ 64 → unwrap_or (number_of (decimal n)) 0 ≡ n
 number_told n fits = ap (λ (o : Option ℕ). unwrap_or o 0) (number_of-decimal n fits)

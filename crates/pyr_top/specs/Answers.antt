@@ -1,16 +1,12 @@
 -- What the program answers to its words and its input.
-use Rattle.std.specs.Prelude.{◌≡◌, ◌≢◌, ◌⊎◌, ⊤, ℕ, ◌<◌, ◌≤◌, Bool, true, false, List, ◌∷◌, ◌++◌, codes, decimal, Option, Result, Ok, Err, IfSome, IsOkAnd, IsTrue, length}
-use Rattle.std.specs.Io.KnownBytes.{Appends, IsAtEnd}
+use Rattle.std.specs.Prelude.{◌≡◌, ◌≢◌, ⊤, ℕ, ◌<◌, ◌≤◌, List, ◌∷◌, ◌++◌, codes, decimal, Option, Result, Ok, Err, IfSome, IsTrue, length}
 use Rattle.pyr_num.specs.declared.limits.TheConstants.Limits.{INPUT}
-use Rattle.pyr_port.specs.Giving.{AppendsPrefix}
 use Rattle.pyr_top.specs.declared.command.Command.{Command}
 use Rattle.pyr_top.specs.declared.command.Command.TheVariants.{Seq, Cluster, Compile, Gantt, Check, Run, Make, VerifyMake}
 use Rattle.pyr_top.specs.declared.refusal.Refusal.{Refusal}
-use Rattle.pyr_top.specs.declared.refusal.Refusal.TheVariants.{Usage, Source, Sink, Memory, TooLong, Program, Load}
-use Rattle.pyr_top.specs.declared.status.Status as status
-use Rattle.pyr_top.specs.declared.status.Status.TheVariants as statuses
-use Rattle.pyr_top.specs.Commands.{reads_graph, reads_bundle, input_of, Spells, NoCommand, ReadsInput, ReadsGraph, ReadsBundle}
-use Rattle.pyr_top.specs.Refusals.{status_of, line_of, too_long, IsToldAs}
+use Rattle.pyr_top.specs.declared.refusal.Refusal.TheVariants.{Memory, Program, Load}
+use Rattle.pyr_top.specs.Commands.{reads_graph, reads_bundle, input_of, Spells}
+use Rattle.pyr_top.specs.Refusals.{too_long}
 use Rattle.pyr_top.specs.OutputsText.{outputs_text, bundle_outputs}
 use Rattle.pyr_seq.specs.Sequential.{outputs_of}
 use Rattle.pyr_graph.specs.System.{datum_numbers}
@@ -162,75 +158,3 @@ pub record IsAnswered (words : List (List ℕ)) (left : Option (List ℕ)) (IsSu
   pub command : Command
   pub spelled : Spells words command
   pub answer : IsGiven command left IsSuch
-
--- the defined answer is an output, which was written so
-abbrev pub Delivers : List (List ℕ) → Option (List ℕ) → (List ℕ → Type 0) → Type 0
-Delivers words left IsWritten = IsAnswered words left (λ given. IsOkAnd given IsWritten)
-
--- the cause of a refusal, where `source` and `out` say that the count of faults rose there
-abbrev pub Cause : List (List ℕ) → Option (List ℕ) → Type 0 → Type 0 → Refusal → Type 0
-Cause words left source out Usage = NoCommand words
-Cause words left source out Source = ReadsInput words × source
-Cause words left source out Sink = out
-Cause words left source out Memory = Unit {0}
-Cause words left source out TooLong =
-    ReadsInput words × IsAnswered words left (λ given. given ≡ Err TooLong)
-Cause words left source out (Program fault) =
-    (fault ≢ faults.Memory) × ReadsGraph words
-    × IsAnswered words left (λ given. given ≡ Err (Program fault))
-Cause words left source out (Load fault) =
-    (fault ≢ loads.Memory) × ReadsBundle words
-    × IsAnswered words left (λ given. given ≡ Err (Load fault))
-
--- the status tells of the input
-abbrev pub tells_of_input : status.Status → Bool
-tells_of_input statuses.Ok = false
-tells_of_input statuses.Usage = false
-tells_of_input statuses.Source = false
-tells_of_input statuses.Sink = false
-tells_of_input statuses.Memory = false
-tells_of_input _ = true
-
--- the defined answer is a refusal with this status
-abbrev pub IsRefusedAs : List (List ℕ) → Option (List ℕ) → status.Status → Type 0
-IsRefusedAs words left ended = IsAnswered words left (λ given. (refusal : Refusal) × (given ≡ Err refusal) × (ended ≡ status_of refusal))
-
--- a call that ended with a refusal: its cause, and its line, of which `err` holds a prefix, and all of it where `err` didn't fail
-pub record IsRefused (words : List (List ℕ)) (left : Option (List ℕ)) (source out err : Type 0) (old new : Option (List ℕ)) (ended : status.Status) : Type 0 where
-  pub refusal : Refusal
-  pub status : ended ≡ status_of refusal
-  pub cause : Cause words left source out refusal
-  pub line : AppendsPrefix old new (line_of refusal)
-  pub whole : Appends old new (line_of refusal) ⊎ err
-
--- the call ended as this defined answer says
-abbrev pub EndsAs : Option (List ℕ) → Option (List ℕ) → status.Status → Result (List ℕ) Refusal → Type 0
-EndsAs old new ended (Ok output) = (ended ≡ statuses.Ok) × Appends old new output
-EndsAs old new ended (Err refusal) = ended ≡ status_of refusal
-
--- where the words are a command and its input is told, the call ended as the defined answer says, or for want of memory
-abbrev pub IsComplete : List (List ℕ) → Option (List ℕ) → Option (List ℕ) → Option (List ℕ) → status.Status → Type 0
-IsComplete words left old new ended =
-    (command : Command)
-    → Spells words command
-    → IfSome (input_of command left) (λ input. (given : Result (List ℕ) Refusal)
-    → Answers command input given
-    → EndsAs old new ended given ⊎ (ended ≡ statuses.Memory))
-
--- an input within the limit was read to its end
-abbrev pub IsReadToEnd : List (List ℕ) → Option (List ℕ) → Option (List ℕ) → Type 0
-IsReadToEnd words old new = ReadsInput words → IfSome old (λ input. length input ≤ INPUT → IsAtEnd new)
-
--- this refusal was told: its status, and a prefix of its line, all of it where `err` didn't fail
-pub record Tells (told : Refusal) (err : Type 0) (old new : Option (List ℕ)) (ended : status.Status)
-    : Type 0 where
-  pub status : ended ≡ status_of told
-  pub line : AppendsPrefix old new (line_of told)
-  pub whole : Appends old new (line_of told) ⊎ err
-
--- the refusal was told, or that there was no memory to make its line
-pub record IsTold (refusal : Refusal) (err : Type 0) (old new : Option (List ℕ))
-    (ended : status.Status) : Type 0 where
-  pub told : Refusal
-  pub as_ : IsToldAs refusal told
-  pub tells : Tells told err old new ended

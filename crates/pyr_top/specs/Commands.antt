@@ -1,4 +1,4 @@
--- The commands: the words that spell each, and whether it has an input.
+-- The commands: the words that spell each, what it reads, and whether it starts threads.
 use Rattle.std.specs.Prelude.{◌≡◌, ⊤, ℕ, ◌≤◌, Bool, true, false, List, [], ◌∷◌, Option, Some, map, codes, decimal, String, string_bytes, IsTrue, if◌then◌else◌}
 use Rattle.std.specs.declared.alloc.Global.{Global}
 use Rattle.pyr_num.specs.declared.limits.TheConstants.Limits.{LEAST_PROCESSORS, PROCESSORS, TASKS}
@@ -62,6 +62,11 @@ reads_bundle Check = true
 reads_bundle Run = true
 reads_bundle command = false
 
+-- the command starts threads, and may wait for them
+abbrev pub uses_threads : Command → Bool
+uses_threads Run = true
+uses_threads command = false
+
 -- the bytes that a command is given, where they are told: those that are left in the source, and none where it has no input
 abbrev pub input_of : Command → Option (List ℕ) → Option (List ℕ)
 input_of command left = if has_input command then left else Some []
@@ -69,10 +74,6 @@ input_of command left = if has_input command then left else Some []
 -- the words ask for no command
 abbrev pub NoCommand : List (List ℕ) → Type 0
 NoCommand words = (command : Command) → Spells words command → ⊥
-
--- the words ask to run a bundle
-abbrev pub AsksToRun : List (List ℕ) → Type 0
-AsksToRun words = words ≡ spelling Run
 
 -- the words ask for a command with an input
 pub record ReadsInput (words : List (List ℕ)) : Type 0 where
@@ -90,3 +91,9 @@ pub record ReadsBundle (words : List (List ℕ)) : Type 0 where
   pub command : Command
   pub spelled : Spells words command
   pub bundle : IsTrue (reads_bundle command)
+
+-- they ask for one that starts threads
+pub record AsksForThreads (words : List (List ℕ)) : Type 0 where
+  pub command : Command
+  pub spelled : Spells words command
+  pub threads : IsTrue (uses_threads command)

@@ -2,6 +2,7 @@
 use Rattle.std.specs.Prelude.{◌≡◌, ◌≤◌, ℕ, List, Option, IfSome, length, ⊤}
 use Rattle.std.specs.Io.KnownBytes.{Appends}
 use Rattle.pyr_num.specs.declared.limits.TheConstants.Limits.{INPUT}
+use Rattle.pyr_port.specs.Calls.{SinkCall}
 use Rattle.pyr_seq.specs.Sequential.{outputs_of}
 use Rattle.pyr_graph.specs.System.{datum_numbers}
 use Rattle.pyr_graphtext.specs.Program.{ProgramParts, tasks_of}
@@ -96,8 +97,9 @@ Promises (VerifyMake tasks processors) input output = TellsVerified tasks proces
 Promises command input output = ⊤
 
 -- the words are a command, and where its input is told, this holds of it and of what was appended
-pub record KeepsPromise (words : List (List ℕ)) (left old new : Option (List ℕ)) : Type 0 where
+pub record KeepsPromise (words : List (List ℕ)) (left : Option (List ℕ)) (out : SinkCall)
+    : Type 0 where
   pub command : Command
   pub spelled : Spells words command
-  pub kept : IfSome (input_of command left) (λ input. (output : List ℕ) × Appends old new output
-      × Promises command input output)
+  pub kept : IfSome (input_of command left) (λ input. (output : List ℕ)
+      × Appends out.written out.written_after output × Promises command input output)

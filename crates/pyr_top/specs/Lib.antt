@@ -8,6 +8,9 @@ pub mod OutputsText
 pub mod ClusterReport
 pub mod SummaryText
 pub mod Answers
+pub mod Valid
+pub mod Endings
 pub mod Headline
 pub mod Calls
 pub mod Responding
+pub mod Laws

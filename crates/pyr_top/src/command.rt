@@ -1,6 +1,6 @@
 // The commands, and the words that spell them.
-ghost use Rattle.std.specs.Prelude.{◌≡◌, ◌↔◌, ◌∷◌, [], IfSome, IfNone, IsTrue};
-ghost use Rattle.pyr_top.specs.Commands.{texts, has_input, Spells, NoCommand, AsksToRun};
+ghost use Rattle.std.specs.Prelude.{◌≡◌, ◌≢◌, ◌∷◌, [], codes, IfSome, IfNone};
+ghost use Rattle.pyr_top.specs.Commands.{texts, has_input, Spells, NoCommand};
 ghost use Rattle.pyr_top.specs.Numerals.{IsNumeralIn, NoNumeralIn};
 
 use pyr_lex::number;
@@ -55,73 +55,78 @@ pub fn read_command(words: &[String]) -> Option<Command>
     ensures some { IfSome result (Spells (texts words.now)) }
     ensures none { IfNone result (NoCommand (texts words.now)) }
 {
-    match words {
-        [word] => plain_command(word.as_str()),
-        [word, text] => numbered_command(word.as_str(), text.as_str()),
-        [word, tasks, processors] => verifying_command(
-            word.as_str(),
-            tasks.as_str(),
-            processors.as_str(),
-        ),
+    let (first, rest) = words.split_first()?;
+    command_of(first.as_str(), rest)
+}
+
+// The command of a first word with what comes after it.
+fn command_of(first: &str, rest: &[String]) -> Option<Command>
+    ensures some { IfSome result (Spells (first.now ∷ texts rest.now)) }
+    ensures none { IfNone result (NoCommand (first.now ∷ texts rest.now)) }
+{
+    match first {
+        "seq" => plain(Command::Seq, rest),
+        "cluster" => plain(Command::Cluster, rest),
+        "compile" => compiling(rest),
+        "gantt" => planning(rest),
+        "check" => plain(Command::Check, rest),
+        "run" => plain(Command::Run, rest),
+        "make" => making(rest),
+        "verify-make" => verifying(rest),
         _ => None,
     }
 }
 
-/// Whether the words ask to run a bundle. It takes no memory.
-pub fn asks_to_run(words: &[String]) -> bool
-    ensures { IsTrue result ↔ AsksToRun (texts words.now) }
+// The command, where no word comes after its first one.
+fn plain(command: Command, rest: &[String]) -> Option<Command>
+    ensures some { IfSome result (λ found. (found ≡ command) × (texts rest.now ≡ [])) }
+    ensures none { IfNone result (texts rest.now ≢ []) }
 {
-    match words {
-        [word] => is_run(word.as_str()),
-        _ => false,
-    }
-}
-
-fn is_run(word: &str) -> bool
-    ensures { IsTrue result ↔ AsksToRun (word.now ∷ []) }
-{
-    match word {
-        "run" => true,
-        _ => false,
-    }
-}
-
-// The command of one word.
-fn plain_command(word: &str) -> Option<Command>
-    ensures some { IfSome result (Spells (word.now ∷ [])) }
-    ensures none { IfNone result (NoCommand (word.now ∷ [])) }
-{
-    match word {
-        "seq" => Some(Command::Seq),
-        "cluster" => Some(Command::Cluster),
-        "check" => Some(Command::Check),
-        "run" => Some(Command::Run),
+    match rest {
+        [] => Some(command),
         _ => None,
     }
 }
 
-// The command of a word with a number behind it.
-fn numbered_command(word: &str, text: &str) -> Option<Command>
-    ensures some { IfSome result (Spells (word.now ∷ text.now ∷ [])) }
-    ensures none { IfNone result (NoCommand (word.now ∷ text.now ∷ [])) }
+// The command that compiles, of what comes after its first word.
+fn compiling(rest: &[String]) -> Option<Command>
+    ensures some { IfSome result (Spells (codes "compile" ∷ texts rest.now)) }
+    ensures none { IfNone result (NoCommand (codes "compile" ∷ texts rest.now)) }
 {
-    match word {
-        "compile" => Some(Command::Compile(processors_in(text)?)),
-        "gantt" => Some(Command::Gantt(processors_in(text)?)),
-        "make" => Some(Command::Make(tasks_in(text)?)),
+    match rest {
+        [processors] => Some(Command::Compile(processors_in(processors.as_str())?)),
         _ => None,
     }
 }
 
-// The command of a word with two numbers behind it.
-fn verifying_command(word: &str, tasks: &str, processors: &str) -> Option<Command>
-    ensures some { IfSome result (Spells (word.now ∷ tasks.now ∷ processors.now ∷ [])) }
-    ensures none { IfNone result (NoCommand (word.now ∷ tasks.now ∷ processors.now ∷ [])) }
+fn planning(rest: &[String]) -> Option<Command>
+    ensures some { IfSome result (Spells (codes "gantt" ∷ texts rest.now)) }
+    ensures none { IfNone result (NoCommand (codes "gantt" ∷ texts rest.now)) }
 {
-    match word {
-        "verify-make" => Some(Command::VerifyMake {
-            tasks: tasks_in(tasks)?,
-            processors: processors_in(processors)?,
+    match rest {
+        [processors] => Some(Command::Gantt(processors_in(processors.as_str())?)),
+        _ => None,
+    }
+}
+
+fn making(rest: &[String]) -> Option<Command>
+    ensures some { IfSome result (Spells (codes "make" ∷ texts rest.now)) }
+    ensures none { IfNone result (NoCommand (codes "make" ∷ texts rest.now)) }
+{
+    match rest {
+        [tasks] => Some(Command::Make(tasks_in(tasks.as_str())?)),
+        _ => None,
+    }
+}
+
+fn verifying(rest: &[String]) -> Option<Command>
+    ensures some { IfSome result (Spells (codes "verify-make" ∷ texts rest.now)) }
+    ensures none { IfNone result (NoCommand (codes "verify-make" ∷ texts rest.now)) }
+{
+    match rest {
+        [tasks, processors] => Some(Command::VerifyMake {
+            tasks: tasks_in(tasks.as_str())?,
+            processors: processors_in(processors.as_str())?,
         }),
         _ => None,
     }

@@ -1,12 +1,12 @@
 // Why a command isn't answered.
 ghost use Rattle.std.specs.Prelude.{◌≡◌, IfSome, IfNone};
 ghost use Rattle.pyr_top.specs.Refusals.{status_of, line_of, refusal_of, refusal_by, refusal_to_load, IsMade};
-ghost use Rattle.pyr_top.specs.declared.refusal.Refusal.TheVariants.{Sink as SinkRefusal, Memory as MemoryRefusal};
+ghost use Rattle.pyr_top.specs.declared.refusal.Refusal.TheVariants.{Memory as MemoryRefusal};
 
 use crate::Status;
 use pyr_graphtext::ProgramFault;
 use pyr_loader::LoadFault;
-use pyr_port::{ReadFault, SinkFault};
+use pyr_port::ReadFault;
 use std::alloc::AllocError;
 
 /// Why a command isn't answered.
@@ -105,14 +105,6 @@ impl From<LoadFault> for Refusal {
             LoadFault::Memory => Refusal::Memory,
             fault => Refusal::Load(fault),
         }
-    }
-}
-
-impl From<SinkFault> for Refusal {
-    ghost from_gives = { λ _ refusal. refusal ≡ SinkRefusal };
-
-    fn from(_: SinkFault) -> Self {
-        Refusal::Sink
     }
 }
 

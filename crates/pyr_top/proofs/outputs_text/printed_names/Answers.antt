@@ -1,4 +1,4 @@
-use Rattle.std.proofs.Common.{◌∙◌, List, [], ◌∷◌, ◌++◌, ap}
+use Rattle.std.proofs.Common.{◌∙◌, [], ◌∷◌, ◌++◌, ap}
 use Rattle.pyr_num.specs.declared.name.Name.{Name}
 use Rattle.pyr_num.specs.declared.ids.DatumId.{DatumId}
 use Rattle.pyr_graphtext.specs.Program.{datum_name}

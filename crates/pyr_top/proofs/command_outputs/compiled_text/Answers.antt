@@ -1,5 +1,5 @@
 use Rattle.pyr_top.proofs.CompiledLemmas.{compiles_safely}
-use Rattle.pyr_top.proofs.top.compiled_text.Goals as goal
+use Rattle.pyr_top.proofs.command_outputs.compiled_text.Goals as goal
 
 pub returns-clause-safe : goal.returns-clause-safe
 returns-clause-safe c =

@@ -1,8 +1,7 @@
-use Rattle.std.proofs.Common.{rules}
 use Rattle.pyr_top.specs.Headline.{PrintsTheSame}
 use Rattle.pyr_top.proofs.LoadLemmas.{runs_safely}
 use Rattle.pyr_top.proofs.CompiledLemmas.{prints_the_same}
-use Rattle.pyr_top.proofs.top.bundle_text.Goals as goal
+use Rattle.pyr_top.proofs.command_outputs.bundle_text.Goals as goal
 
 pub returns-clause-safe : goal.returns-clause-safe
 returns-clause-safe c =

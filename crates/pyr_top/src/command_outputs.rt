@@ -1,28 +1,20 @@
-// The commands that need no threads.
-ghost use Rattle.std.specs.Prelude.{◌≡◌, ◌≢◌, ◌≤◌, ℕ, List, length, IfSome, IfOk, IfErr, OnOk, IsTrue, vec_len};
-ghost use Rattle.std.specs.Io.KnownBytes.{Appends};
-ghost use Rattle.pyr_port.specs.Causes.{Rose};
-ghost use Rattle.pyr_port.specs.Giving.{AppendsPrefix};
+// The output of each command that starts no threads, one function each.
+ghost use Rattle.std.specs.Prelude.{◌≡◌, ◌≤◌, length, IfOk, IfErr, IsTrue};
+ghost use Rattle.pyr_port.specs.Calls.{source_call};
 ghost use Rattle.pyr_graphtext.specs.Canonical.{program_text};
 ghost use Rattle.pyr_make.specs.Layered.{layered_program};
-ghost use Rattle.pyr_top.specs.Commands.{texts, has_input, input_of, IsWithinRange, NoCommand, ReadsInput, AsksToRun};
+ghost use Rattle.pyr_top.specs.Commands.{uses_threads, IsWithinRange};
 ghost use Rattle.pyr_top.specs.Answers.{IsPrinted, IsClusterReport, IsBundleText, IsGanttReport, IsTextFor, check_report, IsCheckReport, IsTextOfLoaded, IsSummaryText};
-ghost use Rattle.pyr_top.specs.Headline.{IsAccepted, RunsSafely, CompilesSafely, Promises, KeepsPromise, TellsVerified};
-ghost use Rattle.pyr_top.specs.Answers.{Gives, Refuses, IsGiven, Delivers, Cause};
-ghost use Rattle.pyr_top.specs.Answers.{IsReadToEnd, tells_of_input, Tells, IsTold};
-ghost use Rattle.pyr_top.specs.Responding.{IsInput, CauseOf, ReachesEnd};
-ghost use Rattle.pyr_top.specs.Refusals.{status_of, line_of};
-ghost use Rattle.pyr_top.specs.Calls.{IsCall};
-ghost use Rattle.pyr_top.specs.declared.command.Command.TheVariants.{Run};
+ghost use Rattle.pyr_top.specs.Answers.{Gives, Refuses};
+ghost use Rattle.pyr_top.specs.Headline.{IsAccepted, RunsSafely, CompilesSafely, Promises, TellsVerified};
+ghost use Rattle.pyr_top.specs.Responding.{IsOutput, LeavesSource};
 
 use crate::cluster_report::cluster_report;
-use crate::command::read_command;
 use crate::figures::put_figure;
-use crate::load_messages::load_line;
-use crate::messages::fault_line;
 use crate::outputs_text::outputs_text;
+use crate::streams::read_input;
 use crate::summary_text::summary_text;
-use crate::{Command, Refusal, Status};
+use crate::{Command, Refusal};
 use pyr_bundletext::print_bundle;
 use pyr_compile::{compile, plan};
 use pyr_dsc::cluster;
@@ -31,147 +23,29 @@ use pyr_graphtext::{Program, print_program, read_program, sequential};
 use pyr_loader::load;
 use pyr_make::make;
 use pyr_num::Limits;
-use pyr_port::{Sink, Source, read_all, write_all};
+use pyr_port::Source;
 use pyr_verify::verify_make;
 use std::alloc::{AllocError, Global};
 
-/// Does what the words ask for, where that is not to run a bundle: reads the source to its end, writes
-/// the output to `out`, and where it can't, one line on the cause to `err`. It always returns. It takes
-/// no memory where the words are no command.
-pub fn answer<S: Source, O: Sink, E: Sink>(
-    alloc: Global,
-    words: &[String],
-    source: &mut S,
-    out: &mut O,
-    err: &mut E,
-) -> Status
-    requires { ¬ AsksToRun (texts words.now) }
-    ensures { IsCall (texts words.now)
-        (S.left source.old) (S.left source.new) (source.new ≡ source.old)
-        (Rose (S.faults source.old) (S.faults source.new))
-        (O.written out.old) (O.written out.new) (out.new ≡ out.old)
-        (Rose (O.faults out.old) (O.faults out.new))
-        (E.written err.old) (E.written err.new) (err.new ≡ err.old)
-        (Rose (E.faults err.old) (E.faults err.new)) result }
-{
-    match respond(alloc, words, source, out) {
-        Ok(()) => Status::Ok,
-        Err(refusal) => refuse(alloc, &refusal, err),
-    }
-}
-
-// Tells a refusal on `err`, and answers its status. Where its line has to be made and memory runs
-// out, that is told.
-pub(crate) fn refuse<E: Sink>(alloc: Global, refusal: &Refusal, err: &mut E) -> Status
-    ensures { IsTold refusal.now (Rose (E.faults err.old) (E.faults err.new))
-        (E.written err.old) (E.written err.new) result }
-{
-    if let Some(line) = refusal.fixed_line() {
-        return tell(refusal, line, err);
-    }
-    match refusal {
-        Refusal::Program(fault) => match fault_line(alloc, fault) {
-            Ok(line) => tell(refusal, &line, err),
-            Err(_) => tell(&Refusal::Memory, b"no memory\n", err),
-        },
-        Refusal::Load(fault) => match load_line(alloc, fault) {
-            Ok(line) => tell(refusal, &line, err),
-            Err(_) => tell(&Refusal::Memory, b"no memory\n", err),
-        },
-        _ => unreachable!(),
-    }
-}
-
-// Tells this line of a refusal.
-fn tell<E: Sink>(told: &Refusal, line: &[u8], err: &mut E) -> Status
-    requires { line.now ≡ line_of told.now }
-    ensures { Tells told.now (Rose (E.faults err.old) (E.faults err.new))
-        (E.written err.old) (E.written err.new) result }
-{
-    let _ = write_all(err, line);
-    told.status()
-}
-
-// Does what the words ask for, without the line to `err`.
-fn respond<S: Source, O: Sink>(
-    alloc: Global,
-    words: &[String],
-    source: &mut S,
-    out: &mut O,
-) -> Result<(), Refusal>
-    requires { ¬ AsksToRun (texts words.now) }
-    ensures ok { OnOk result (Delivers (texts words.now) (S.left source.old)
-        (Appends (O.written out.old) (O.written out.new))) }
-    ensures cause { IfErr result (λ refusal. Cause (texts words.now) (S.left source.old)
-        (Rose (S.faults source.old) (S.faults source.new))
-        (Rose (O.faults out.old) (O.faults out.new)) refusal) }
-    ensures usage { NoCommand (texts words.now) → result ≡ Err Refusal.Usage }
-    ensures safe { OnOk result (KeepsPromise (texts words.now) (S.left source.old)
-        (O.written out.old) (O.written out.new)) }
-
-    ensures unread { ¬ ReadsInput (texts words.now) → source.new ≡ source.old }
-    ensures read_to_end { OnOk result
-        (IsReadToEnd (texts words.now) (S.left source.old) (S.left source.new)) }
-    ensures refused_at_end { IfErr result (λ refusal. IsTrue (tells_of_input (status_of refusal))
-        → IsReadToEnd (texts words.now) (S.left source.old) (S.left source.new)) }
-    ensures nothing { IfErr result (λ refusal. refusal ≢ Refusal.Sink → out.new ≡ out.old) }
-    ensures prefix { result ≡ Err Refusal.Sink → Delivers (texts words.now) (S.left source.old)
-        (AppendsPrefix (O.written out.old) (O.written out.new)) }
-{
-    let command = read_command(words).ok_or(Refusal::Usage)?;
-    let output = output_for(alloc, command, source)?;
-    write_all(out, &output)?;
-    Ok(())
-}
-
-// What the command gives for its input.
-fn output_for<S: Source>(
+/// What a command gives for what is left in the source, where it starts no threads.
+pub(crate) fn output_for<S: Source>(
     alloc: Global,
     command: Command,
     source: &mut S,
 ) -> Result<Vec<u8>, Refusal>
     requires range { IsWithinRange command }
-    requires alone { command ≢ Run }
-    ensures ok { IfOk result (λ output.
-        IsGiven command (S.left source.old) (λ given. given ≡ Ok output.items)) }
-    ensures safe { IfOk result (λ output. IfSome (input_of command (S.left source.old))
-        (λ input. Promises command input output.items)) }
-    ensures refused { IfErr result
-        (CauseOf command (S.left source.old) (Rose (S.faults source.old) (S.faults source.new))) }
-    ensures unread { ¬ IsTrue (has_input command) → source.new ≡ source.old }
-    ensures end { OnOk result (ReachesEnd command (S.left source.old) (S.left source.new)) }
-    ensures refused_at_end { IfErr result (λ refusal. IsTrue (tells_of_input (status_of refusal))
-        → ReachesEnd command (S.left source.old) (S.left source.new)) }
+    requires alone { ¬ IsTrue (uses_threads command) }
+    ensures output { IfOk result (λ output. IsOutput command (S.left source.old) output.items) }
+    ensures source { LeavesSource command (source_call S.left S.faults source.old source.new) result }
 {
     let input = read_input(alloc, command, source)?;
     output_of(alloc, command, &input)
 }
 
-// The input of the command: what is left in the source, or nothing where it has none.
-pub(crate) fn read_input<S: Source>(
-    alloc: Global,
-    command: Command,
-    source: &mut S,
-) -> Result<Vec<u8>, Refusal>
-    ensures input { IfOk result (λ bytes. IsInput command (S.left source.old) bytes.items) }
-    ensures fits { IfOk result (λ bytes. vec_len bytes ≤ Limits.INPUT) }
-    ensures refused { IfErr result
-        (CauseOf command (S.left source.old) (Rose (S.faults source.old) (S.faults source.new))) }
-    ensures unread { ¬ IsTrue (has_input command) → source.new ≡ source.old }
-    ensures end { OnOk result (ReachesEnd command (S.left source.old) (S.left source.new)) }
-    ensures refused_at_end { IfErr result (λ refusal. IsTrue (tells_of_input (status_of refusal))
-        → ReachesEnd command (S.left source.old) (S.left source.new)) }
-{
-    if !command.has_input() {
-        return Ok(Vec::new(alloc));
-    }
-    Ok(read_all(alloc, source, Limits::INPUT)?)
-}
-
 // What the command gives for the input.
 fn output_of(alloc: Global, command: Command, input: &[u8]) -> Result<Vec<u8>, Refusal>
     requires range { IsWithinRange command }
-    requires alone { command ≢ Run }
+    requires alone { ¬ IsTrue (uses_threads command) }
     requires fits { length input.now ≤ Limits.INPUT }
     ensures ok { IfOk result (λ output. Gives command input.now (Ok output.items)) }
     ensures safe { IfOk result (λ output. Promises command input.now output.items) }
