@@ -3,6 +3,7 @@ pub mod Exchange
 pub mod Front
 pub mod HandoverSteps
 pub mod Locally
+pub mod Occupied
 pub mod Reach
 pub mod Sent
 pub mod Update

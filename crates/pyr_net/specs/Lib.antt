@@ -2,4 +2,5 @@ pub mod Alone
 pub mod Handover
 pub mod Laws
 pub mod Net
+pub mod Occupancy
 pub mod Run
