@@ -1,10 +1,11 @@
 -- The run of a plan is complete.
 use Rattle.std.proofs.Common.{◌≡◌, ℕ, ◌+◌, ◌<◌, ◌≤◌, ◌==◌, ◌||◌, Bool, true, false, cond, List, [], ◌∷◌, length, map, inl, inr, refl, sym, ap, ◌∙◌, subst, arith}
-use Rattle.std.specs.Prelude.{nat_eq, slice_index}
+use Rattle.std.specs.Prelude.{All, nat_eq, slice_index}
 use Rattle.std.specs.List.{list_any}
 use Rattle.std.proofs.lemmas.Bool.{cases_lt, cases_eq, eq-eqb, ne_eqb}
-use Rattle.std.proofs.lemmas.List.{get_or_past}
+use Rattle.std.proofs.lemmas.List.{get_or_past, get_or-map, length-map}
 use Rattle.pyr_num.specs.declared.ids.DatumId.{DatumId}
+use Rattle.pyr_num.specs.declared.ids.TaskId.{TaskId}
 use Rattle.pyr_seq.specs.Walk.{IsTopological}
 use Rattle.pyr_graph.specs.declared.placement.Placement.{Placement}
 use Rattle.pyr_graph.specs.declared.plan.Plan.{Plan}
@@ -17,7 +18,9 @@ use Rattle.pyr_graphtext.specs.Program.{ProgramParts, IsProgram}
 use Rattle.pyr_graph.specs.Placements.{processor_of}
 use Rattle.pyr_rcp.specs.Order.{IsPlaced, IsOrdered}
 use Rattle.pyr_rcp.proofs.PlanLemmas.{IsTopological-from_ordered}
-use Rattle.pyr_bundle.specs.Parts.{Parts, IsBundle, raw_of, processor_count, code_at, task_at, instr_of}
+use Rattle.pyr_bundle.specs.declared.capacity.Capacity.{Capacity}
+use Rattle.pyr_bundle.specs.Parts.{Parts, IsBundle, raw_of, raw_task_of, processor_count, task_count as bundle_tasks, code_at, task_at, instr_of}
+use Rattle.pyr_bundle.specs.WellFormed.{IsWellFormed}
 use Rattle.pyr_machine.specs.Machine.{tags, start}
 use Rattle.pyr_machine.specs.Schedule.{tally, KeepsTags, IsSchedule, UsesAll, at_start}
 use Rattle.pyr_bundle.proofs.WellFormedLemmas.{well_formed}
@@ -30,9 +33,13 @@ use Rattle.pyr_emit.specs.Emission.{IsEmission, reads_it, writes_it, code_on}
 use Rattle.pyr_emit.proofs.CountLemmas.{home_below, task_below}
 use Rattle.pyr_emit.proofs.EmittedLemmas.{processors_are, code_is}
 use Rattle.pyr_emit.proofs.MeaningLemmas.{same_reads, same_writes}
-use Rattle.pyr_compile.specs.Compiled.{IsPlanned}
-use Rattle.pyr_compile.specs.PlanRun.{plan_schedule, PlanCompletes, RunsByItsPlan, PlansComplete}
+use Rattle.pyr_size.specs.Blocks.{order_schedule}
+use Rattle.pyr_size.specs.Sizes.{sized, Completes, AreSizes}
+use Rattle.pyr_size.proofs.Sized.{sized_completes}
+use Rattle.pyr_compile.specs.Compiled.{IsPlanned, roomy, HasPlanSizes, RunsByItsPlan}
+use Rattle.pyr_compile.specs.PlanRun.{plan_schedule, PlanCompletes, PlansComplete, SizedPlansComplete}
 use Rattle.pyr_compile.proofs.Events.{Event, project, scheduled, all_used}
+use Rattle.pyr_compile.proofs.BlockSizes.{schedule_is}
 use Rattle.pyr_compile.proofs.Blocks.{events_below, project_all, no_code, turns_are}
 use Rattle.pyr_compile.proofs.Ready.{all_ready}
 use Rattle.pyr_compile.proofs.Matched.{one_sender, matched}
@@ -130,13 +137,33 @@ module _ (p : ProgramParts) (placement : Placement) (plan : Plan) (b : Parts) (p
       (matched s placement order graph placed top b count codes_are)
       is_schedule uses_all
 
+  -- it is the run of the blocks of the bundle
+  pub order_completes : IsWellFormed b → Completes b (order_schedule b order)
+  order_completes well = subst (Completes b) (sym (schedule_is s placement order top b well codes_are)) plan_completes
+
+  pub order_known : All (λ t. t.0 < bundle_tasks b) plan.order
+  order_known k d l =
+      let here = get_or-map (λ (t : TaskId). t.0) plan.order k d 0 l in
+      let low = top.tasks k 0 (let n = length-map plan.order (λ (t : TaskId). t.0) in omega (arith, n, l)) in
+      let count = is.count in
+      let typed = length-map b.tasks raw_task_of in
+      omega (arith, here, low, count, typed)
+
+  -- the sizes along the one run are those along the other
+  pub plan_sizes : (caps : List Capacity) → IsWellFormed b → AreSizes b order caps → (complete : PlanCompletes p placement plan b) × (caps ≡ (sized b complete.run).channels)
+  plan_sizes caps well sizes =
+      subst (λ (schedule : List ℕ). (complete : Completes b schedule) × (caps ≡ (sized b complete.run).channels)) (schedule_is s placement order top b well codes_are) (sizes.complete, sizes.are)
+
 pub plans_complete : PlansComplete
 plans_complete p placement plan b program graph placed ordered is = plan_completes p placement plan b program graph placed ordered is
 
+pub sized_plans_complete : SizedPlansComplete
+sized_plans_complete p placement plan b complete = sized_completes b (plan_schedule p.graph placement (task_numbers plan.order)) complete
+
 -- what is told of a compiled bundle, where its plan was made first
 pub runs_by_plan : (p : ProgramParts) (processors : ℕ) (g : System) (placement : Placement) (plan : Plan) (b : Parts) → g ≡ p.graph → IsPlanned g processors placement plan
-    → IsEmission p placement plan (raw_of b) → PlanCompletes p placement plan b → RunsByItsPlan p processors b
-runs_by_plan p processors g placement plan b same planned emission complete =
+    → IsEmission p placement plan (roomy (raw_of b)) → HasPlanSizes p placement plan (raw_of b) → PlanCompletes p placement plan b → RunsByItsPlan p processors b
+runs_by_plan p processors g placement plan b same planned emission sizes complete =
     record {
       compiled = record {
         clustering = planned.clustering;
@@ -146,6 +173,7 @@ runs_by_plan p processors g placement plan b same planned emission complete =
         plan = plan;
         ordered = subst (λ (s : System). IsOrdered s placement plan) same planned.ordered;
         emission = emission;
+        sizes = sizes;
       };
       complete = complete;
     }

@@ -25,8 +25,9 @@ use Rattle.pyr_bundle.specs.declared.raw_channel.RawChannel.{RawChannel}
 use Rattle.pyr_bundle.specs.declared.raw_instr.RawInstr.{RawInstr}
 use Rattle.pyr_bundle.specs.Raw.{task_in, tree_of}
 use Rattle.pyr_bundletext.specs.Text.{line, datum_text, task_text, code_text, print_text, channel_text, processors_text, text_of}
-use Rattle.pyr_emit.specs.Emission.{IsEmission, IsTaskOf, channels_of}
-use Rattle.pyr_compile.specs.Compiled.{IsCompiled}
+use Rattle.pyr_emit.specs.Emission.{IsEmission, IsTaskOf}
+use Rattle.pyr_compile.specs.Compiled.{IsCompiled, roomy, HasPlanSizes}
+use Rattle.pyr_compile.proofs.SameMachine.{channels_alike}
 
 -- after the run of the clustering each task stands in the clusters
 clustered : (s : System) (c : Clustering) → IsRun s c → (t : ℕ) → t < task_count s → 1 ≤ times_in_clusters (cluster_numbers c.clusters) t
@@ -86,7 +87,8 @@ unfolding text_of
 text_is raw = refl
 
 -- two bundles of one plan have one text
-module _ (p : ProgramParts) (placement : Placement) (plan : Plan) (a b : RawBundle) (first : IsEmission p placement plan a) (second : IsEmission p placement plan b) where
+module _ (p : ProgramParts) (placement : Placement) (plan : Plan) (a b : RawBundle) (first : IsEmission p placement plan (roomy a)) (second : IsEmission p placement plan (roomy b))
+    (one : HasPlanSizes p placement plan a) (other : HasPlanSizes p placement plan b) where
   tasks_alike : flat_map task_text a.tasks ≡ flat_map task_text b.tasks
   tasks_alike = pieces_alike task_text no_task a.tasks b.tasks (first.count ∙ sym second.count) each
     where
@@ -99,16 +101,13 @@ module _ (p : ProgramParts) (placement : Placement) (plan : Plan) (a b : RawBund
   code_alike : a.code ≡ b.code
   code_alike = first.code ∙ sym second.code
 
-  channels_alike : a.channels ≡ b.channels
-  channels_alike = first.channels ∙ ap channels_of code_alike ∙ sym second.channels
-
   one_emission_text : text_of a ≡ text_of b
   one_emission_text =
       text_is a
       ∙ ap (λ (l : List RawDatum). text_by l (flat_map task_text a.tasks) a.prints a.channels a.code) (first.datums ∙ sym second.datums)
       ∙ ap (λ l. text_by b.datums l a.prints a.channels a.code) tasks_alike
       ∙ ap (λ l. text_by b.datums (flat_map task_text b.tasks) l a.channels a.code) (first.prints ∙ sym second.prints)
-      ∙ ap (λ (l : List RawChannel). text_by b.datums (flat_map task_text b.tasks) b.prints l a.code) channels_alike
+      ∙ ap (λ (l : List RawChannel). text_by b.datums (flat_map task_text b.tasks) b.prints l a.code) (channels_alike p placement plan a b first second one other)
       ∙ ap (text_by b.datums (flat_map task_text b.tasks) b.prints b.channels) code_alike
       ∙ sym (text_is b)
 
@@ -117,5 +116,10 @@ pub one_text : (p : ProgramParts) (processors : ℕ) (a b : RawBundle) → IsCom
 one_text p processors a b first second =
     let same : OnePlan first.placement second.placement first.plan second.plan =
     one_plan_for p.graph processors first.clustering second.clustering first.placement second.placement first.plan second.plan first.run second.run first.merged second.merged first.ordered second.ordered in
-    one_emission_text p second.placement second.plan a b
-    (subst (λ (pl : Plan). IsEmission p second.placement pl a) same.planned (subst (λ (m : Placement). IsEmission p m first.plan a) same.placed first.emission)) second.emission
+    let (emission, sizes) = moved p first.placement second.placement first.plan second.plan a same.placed same.planned first.emission first.sizes in
+    one_emission_text p second.placement second.plan a b emission second.emission sizes second.sizes
+  where
+    moved : (p : ProgramParts) (m n : Placement) (q r : Plan) (a : RawBundle) → m ≡ n → q ≡ r → IsEmission p m q (roomy a) → HasPlanSizes p m q a → IsEmission p n r (roomy a) × HasPlanSizes p n r a
+    moved p m n q r a placed planned emission sizes =
+        subst (λ (pl : Plan). IsEmission p n pl (roomy a) × HasPlanSizes p n pl a) planned
+        (subst (λ (pm : Placement). IsEmission p pm q (roomy a) × HasPlanSizes p pm q a) placed (emission, sizes))

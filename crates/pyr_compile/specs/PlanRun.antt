@@ -12,7 +12,7 @@ use Rattle.pyr_bundle.specs.Parts.{Parts, raw_of}
 use Rattle.pyr_machine.specs.Machine.{tags}
 use Rattle.pyr_machine.specs.Schedule.{CompletesBy}
 use Rattle.pyr_emit.specs.Emission.{IsEmission, block_at}
-use Rattle.pyr_compile.specs.Compiled.{IsCompiled}
+use Rattle.pyr_size.specs.Sizes.{sized}
 
 -- the processor of the task at a place of the order, once for each instruction of its block
 abbrev pub turns_at : System → Placement → List ℕ → ℕ → List ℕ
@@ -30,12 +30,6 @@ abbrev pub PlanCompletes : ProgramParts → Placement → Plan → Parts → Typ
 PlanCompletes program placement plan b =
     CompletesBy (tags b) b (plan_schedule program.graph placement (task_numbers plan.order))
 
--- The bundle is that of a plan of the program for so many processors, and the run of this plan is
--- complete.
-pub record RunsByItsPlan (program : ProgramParts) (processors : ℕ) (b : Parts) : Type 0 where
-  pub compiled : IsCompiled program processors (raw_of b)
-  pub complete : PlanCompletes program compiled.placement compiled.plan b
-
 -- the run of every plan of a program is complete, whoever made its bundle
 abbrev pub PlansComplete : Type 0
 PlansComplete =
@@ -43,3 +37,10 @@ PlansComplete =
     → IsGraph program.graph → IsPlaced program.graph placement
     → IsOrdered program.graph placement plan → IsEmission program placement plan (raw_of b)
     → PlanCompletes program placement plan b
+
+-- and stays so with the occupancies along it as capacities
+abbrev pub SizedPlansComplete : Type 0
+SizedPlansComplete =
+    (program : ProgramParts) (placement : Placement) (plan : Plan) (b : Parts)
+    (complete : PlanCompletes program placement plan b)
+    → PlanCompletes program placement plan (sized b complete.run)

@@ -13,7 +13,7 @@ use Rattle.pyr_bundle.specs.Values.{IsOrderOf, printed, tasks_of as bundle_tasks
 use Rattle.pyr_emit.specs.Emission.{IsEmission}
 use Rattle.pyr_emit.specs.Meaning.{MeansTheSame}
 use Rattle.pyr_machine.specs.Counts.{step_count}
-use Rattle.pyr_compile.specs.Compiled.{IsPlanned}
+use Rattle.pyr_compile.specs.Compiled.{IsPlanned, roomy, HasPlanSizes}
 use Rattle.pyr_loader.specs.Safe.{IsSafe}
 use Rattle.pyr_verify.specs.declared.loading.LoadedPlan.{LoadedPlan}
 use Rattle.pyr_verify.specs.declared.summary.Summary.{Summary}
@@ -29,9 +29,9 @@ printed_is p b order means prints =
 
 -- the loaded bundle is that of the plan
 pub is_loaded_plan : (p : ProgramParts) (processors : ℕ) (g : System) (placement : Placement) (plan : Plan) (b : Parts) (found : LoadedPlan) → g ≡ p.graph → IsPlanned g processors placement plan
-    → IsEmission p placement plan (raw_of b) → MeansTheSame p b → found.time ≡ time_of plan → found.loaded.bundle ≡ b → found.loaded.steps ≡ step_count b → HasLoadedText found.loaded
+    → IsEmission p placement plan (roomy (raw_of b)) → HasPlanSizes p placement plan (raw_of b) → MeansTheSame p b → found.time ≡ time_of plan → found.loaded.bundle ≡ b → found.loaded.steps ≡ step_count b → HasLoadedText found.loaded
     → IsSafe found.loaded.bundle found.loaded.steps → IsLoadedPlan p processors found
-is_loaded_plan p processors g placement plan b found graph planned_of emission means time same steps text safe = record {
+is_loaded_plan p processors g placement plan b found graph planned_of emission sizes means time same steps text safe = record {
   compiled = record {
     clustering = planned.clustering;
     run = planned.run;
@@ -39,7 +39,8 @@ is_loaded_plan p processors g placement plan b found graph planned_of emission m
     merged = planned.merged;
     plan = plan;
     ordered = planned.ordered;
-    emission = subst (λ (c : Parts). IsEmission p placement plan (raw_of c)) (sym same) emission;
+    emission = subst (λ (c : Parts). IsEmission p placement plan (roomy (raw_of c))) (sym same) emission;
+    sizes = subst (λ (c : Parts). HasPlanSizes p placement plan (raw_of c)) (sym same) sizes;
   };
   time = time;
   text = text;

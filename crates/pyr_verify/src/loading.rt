@@ -5,6 +5,7 @@ ghost use Rattle.pyr_rcp.specs.Order.{IsPlaced, IsOrdered};
 ghost use Rattle.pyr_bundle.specs.Parts.{raw_of};
 ghost use Rattle.pyr_emit.specs.Emission.{IsEmission};
 ghost use Rattle.pyr_emit.specs.Meaning.{MeansTheSame};
+ghost use Rattle.pyr_compile.specs.Compiled.{roomy, HasPlanSizes};
 ghost use Rattle.pyr_machine.specs.Counts.{step_count};
 ghost use Rattle.pyr_machine.specs.Good.{IsGood};
 ghost use Rattle.pyr_loader.specs.Safe.{IsSafe};
@@ -63,7 +64,10 @@ fn load_planned(alloc: Global, program: &Program, planned: &Planned) -> Result<L
     requires some { 1 ≤ planned.now.placement.processors }
     requires few { planned.now.placement.processors ≤ Limits.PROCESSORS }
     ensures emission { IfOk result (λ loaded.
-        IsEmission program.now planned.now.placement planned.now.plan (raw_of loaded.bundle)) }
+        IsEmission program.now planned.now.placement planned.now.plan
+        (roomy (raw_of loaded.bundle))) }
+    ensures sizes { IfOk result (λ loaded.
+        HasPlanSizes program.now planned.now.placement planned.now.plan (raw_of loaded.bundle)) }
     ensures meaning { IfOk result (λ loaded. MeansTheSame program.now loaded.bundle) }
     ensures steps { IfOk result (λ loaded. loaded.steps ≡ step_count loaded.bundle) }
     ensures text { IfOk result HasLoadedText }

@@ -149,7 +149,7 @@ processor 1\nprocessor 2\nstop\n"
         (
             "2",
             FIVE,
-            b"print 4\nchannel 1 0 2\nprocessor 0\nrecv 1 0\nexec 2\nrecv 1 2\nexec 4\n\
+            b"print 4\nchannel 1 0 1\nprocessor 0\nrecv 1 0\nexec 2\nrecv 1 2\nexec 4\n\
 processor 1\nexec 0\nsend 0 0\nexec 1\nexec 3\nsend 0 2\nstop\n",
         ),
         (
