@@ -3,6 +3,7 @@ use crate::tests::reading::prints_at_end;
 use crate::tests::texts::DIAMOND;
 use pyr_compile::{compile, plans_complete};
 use pyr_graphtext::Program;
+use pyr_size::sized_completes;
 use std::alloc::Global;
 
 // Whether the program, compiled for two processors, gives the bundle of this text.
@@ -25,4 +26,5 @@ fn gives(alloc: Global, text: &[u8], bundle_text: &[u8]) -> bool {
 fn two_processors_share_the_heavy_diamond(rt: HostRuntime) {
     assert!(rt; gives(rt.alloc(), HEAVY_DIAMOND, DIAMOND));
     plans_complete();
+    sized_completes();
 }

@@ -159,6 +159,14 @@ processor 1\nexec 0\nsend 0 0\nexec 1\nexec 3\nsend 0 2\nstop\n",
 processor 0\nrecv 1 0\nrecv 1 2\nexec 4\nrecv 1 3\nexec 5\n\
 processor 1\nexec 0\nsend 0 0\nexec 1\nexec 3\nsend 0 3\nexec 2\nsend 0 2\nstop\n",
         ),
+        (
+            "4",
+            ELIMINATION,
+            b"print 5\nprint 3\nchannel 1 0 2\nchannel 2 1 1\nchannel 3 0 1\n\
+processor 0\nrecv 1 0\nrecv 3 2\nexec 4\nrecv 1 3\nexec 5\n\
+processor 1\nexec 0\nsend 0 0\nrecv 2 1\nexec 3\nsend 0 3\n\
+processor 2\nexec 1\nsend 1 1\nprocessor 3\nexec 2\nsend 0 2\nstop\n",
+        ),
     ] {
         assert!(rt; ends(&rt, rt.alloc(), processors, text, end)?);
     }
