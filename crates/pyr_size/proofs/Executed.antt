@@ -1,15 +1,15 @@
 -- Where the tasks are executed, and the tables of their blocks.
-use Rattle.std.proofs.Common.{◌≡◌, ◌≢◌, ℕ, zero, suc, ◌+◌, ◌<◌, ◌≤◌, ◌==◌, ◌||◌, Bool, true, false, cond, List, [], ◌∷◌, length, set, get_or, slice_get, replicate, Some, None, ◌⊎◌, inl, inr, refl, sym, ap, ◌∙◌, subst, arith, length-set, get_or-set_same}
+use Rattle.std.proofs.Common.{◌≡◌, ◌≢◌, ℕ, zero, suc, ◌+◌, ◌<◌, ◌≤◌, ◌==◌, ◌||◌, Bool, true, false, cond, List, [], ◌∷◌, length, set, get_or, slice_get, Some, None, ◌⊎◌, inl, inr, refl, sym, ap, ◌∙◌, subst, arith, length-set, get_or-set_same}
 use Rattle.std.specs.List.{list_any}
 use Rattle.std.proofs.lemmas.Bool.{cases_lt, eq-eqb, eqb-true, or_cases}
 use Rattle.std.proofs.lemmas.Bool.Decides.{eqb_tells}
-use Rattle.std.proofs.lemmas.List.{get_or_past, get_or-set_other, length-replicate}
+use Rattle.std.proofs.lemmas.List.{get_or_past, get_or-set_other}
 use Rattle.std.proofs.lemmas.Option.{same_Some, none-some}
 use Rattle.pyr_num.specs.declared.ids.TaskId.{TaskId}
 use Rattle.pyr_bundle.specs.declared.instr.Instr.{Instr}
 use Rattle.pyr_bundle.specs.declared.instr.Instr.TheVariants.{Recv, Exec, Send}
 use Rattle.pyr_bundle.specs.Parts.{Parts, processor_count, task_count, code_at, task_id}
-use Rattle.pyr_bundle.specs.WellFormed.{IsWellFormed, StandsAt}
+use Rattle.pyr_bundle.specs.WellFormed.{IsWellFormed}
 use Rattle.pyr_size.specs.Blocks.{is_exec_of, leading_sends, block_size, home_from, home, noted, no_block, block_of, AreBlocks}
 use Rattle.pyr_size.specs.declared.blocks.Block.{Block}
 

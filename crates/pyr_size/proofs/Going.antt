@@ -1,9 +1,8 @@
 -- What the run that follows a schedule keeps, from step to step.
-use Rattle.std.proofs.Common.{◌≡◌, ◌≢◌, ℕ, zero, suc, ◌+◌, ◌<◌, ◌≤◌, max, List, [], ◌∷◌, length, drop, get_or, add-one, refl, sym, ◌∙◌, ap, subst, arith}
+use Rattle.std.proofs.Common.{◌≡◌, ◌≢◌, ℕ, ◌+◌, ◌<◌, max, List, [], ◌∷◌, length, drop, get_or, add-one, refl, sym, ◌∙◌, ap, subst, arith}
 use Rattle.std.proofs.Math.Seq.{drop-cons, drop-length}
 use mathlib.Core.Path.{fun_ext}
 use Rattle.pyr_num.specs.declared.ids.DatumId.{DatumId}
-use Rattle.pyr_num.specs.declared.ids.ProcId.{ProcId}
 use Rattle.pyr_net.specs.Net.{Rules, World, IsEnabled, IsPossible, action_at, next}
 use Rattle.pyr_net.specs.Occupancy.{occupancy}
 use Rattle.pyr_net.specs.declared.action.Action.{Action}

@@ -15,7 +15,7 @@ use Rattle.pyr_net.specs.Run.{IsRun, end_of}
 use Rattle.pyr_net.specs.Occupancy.{occupancy}
 use Rattle.pyr_net.specs.declared.action.Action.{Action}
 use Rattle.pyr_net.specs.declared.action.Action.TheVariants.{Internal, Send as SendTo, Take, Ended, Lacks}
-use Rattle.pyr_net.proofs.Update.{put_same, put_other}
+use Rattle.pyr_net.proofs.Update.{put_other}
 use Rattle.pyr_net.proofs.Occupied.{occupied_now, sent_length}
 use Rattle.pyr_bundle.specs.declared.capacity.Capacity.{Capacity}
 use Rattle.pyr_bundle.specs.declared.instr.Instr.{Instr}

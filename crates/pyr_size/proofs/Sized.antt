@@ -1,8 +1,8 @@
 -- The capacities by occupancy serve: the run is one with them too, and they are from 1 to the sends.
-use Rattle.std.proofs.Common.{◌≡◌, ◌≢◌, ℕ, zero, suc, ◌+◌, ◌<◌, ◌≤◌, ◌==◌, ◌&&◌, max, Bool, true, false, cond, List, [], ◌∷◌, ◌++◌, length, map, drop, slice_get, Option, Some, None, ◌⊎◌, inl, inr, refl, sym, ◌∙◌, ap, subst, arith}
+use Rattle.std.proofs.Common.{◌≡◌, ℕ, ◌≤◌, ◌==◌, ◌&&◌, Bool, true, false, cond, List, [], ◌∷◌, map, refl, sym, ◌∙◌, ap, subst, arith}
 use Rattle.std.proofs.lemmas.Bool.{eqb-true, and_parts}
 use Rattle.pyr_num.specs.declared.ids.DatumId.{DatumId}
-use Rattle.pyr_net.specs.Net.{Rules, World, IsEnabled, IsPossible, action_at, next, state_after}
+use Rattle.pyr_net.specs.Net.{Rules, World}
 use Rattle.pyr_net.specs.Run.{IsRun, end_of}
 use Rattle.pyr_net.specs.Occupancy.{with_capacities as net_with, occupancy, RunsAsWell, Fits}
 use Rattle.pyr_net.proofs.Occupied.{suffices, occupancy_fits, same_end}
@@ -10,7 +10,6 @@ use Rattle.pyr_bundle.specs.declared.capacity.Capacity.{Capacity}
 use Rattle.pyr_bundle.specs.Parts.{Parts}
 use Rattle.pyr_machine.specs.Machine.{LocalState, tags, tag_rules, start, capacity_in, capacity_of}
 use Rattle.pyr_machine.specs.Good.{IsDone}
-use Rattle.pyr_machine.specs.Schedule.{CompletesBy}
 use Rattle.pyr_size.specs.Sizes.{resized, with_capacities, sized, SizedCompletes}
 use Rattle.pyr_size.proofs.Turn.{follows_alike}
 

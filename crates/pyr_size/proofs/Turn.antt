@@ -1,5 +1,5 @@
 -- The steps of a run that follows a schedule: takes, that leave the place, and one step that moves it.
-use Rattle.std.proofs.Common.{◌≡◌, ◌≢◌, ℕ, zero, suc, ◌+◌, ◌<◌, ◌≤◌, ◌==◌, ◌&&◌, max, Bool, true, false, cond, List, [], ◌∷◌, ◌++◌, length, ◌⊎◌, inl, inr, refl, sym, ◌∙◌, ap, subst, arith}
+use Rattle.std.proofs.Common.{◌≡◌, ◌≢◌, ℕ, zero, suc, ◌+◌, ◌≤◌, ◌==◌, ◌&&◌, max, Bool, true, false, cond, List, [], ◌∷◌, ◌++◌, length, ◌⊎◌, inl, inr, refl, sym, ◌∙◌, ap, subst, arith}
 use Rattle.std.proofs.lemmas.Bool.{eqb-true, and_parts}
 use Rattle.pyr_num.specs.declared.ids.DatumId.{DatumId}
 use Rattle.pyr_net.specs.Net.{World, IsEnabled, IsPossible, action_at, next, state_after, changed, appended, rest_of, local_taken}
@@ -7,7 +7,7 @@ use Rattle.pyr_net.specs.Run.{IsRun, end_of}
 use Rattle.pyr_net.specs.Occupancy.{occupancy}
 use Rattle.pyr_net.specs.declared.action.Action.{Action}
 use Rattle.pyr_net.specs.declared.action.Action.TheVariants.{Internal, Send as SendTo, Take, Ended, Lacks}
-use Rattle.pyr_net.proofs.Update.{put_same, changed_same, changed_at}
+use Rattle.pyr_net.proofs.Update.{put_same, changed_at}
 use Rattle.pyr_net.proofs.Occupied.{occupied_now}
 use Rattle.pyr_bundle.specs.Parts.{Parts}
 use Rattle.pyr_machine.specs.Machine.{LocalState, tags, tag_rules, instr_at, worked_by, advanced}

@@ -1,5 +1,5 @@
 -- The schedule while it is made.
-use Rattle.std.proofs.Common.{◌≡◌, ℕ, zero, suc, ◌+◌, ◌<◌, List, [], ◌∷◌, ◌++◌, append_assoc, length, map, take, get_or, add-one, refl, sym, ap, ◌∙◌, arith}
+use Rattle.std.proofs.Common.{◌≡◌, ℕ, zero, suc, ◌+◌, List, [], ◌∷◌, ◌++◌, append_assoc, add-one, refl, sym, ap, ◌∙◌}
 use Rattle.pyr_machine.specs.Schedule.{again}
 
 again_push : (n p : ℕ) → again n p ++ p ∷ [] ≡ again (suc n) p

@@ -1,9 +1,8 @@
-use Rattle.std.proofs.Common.{ℕ, List, ◌+◌, ◌≤◌, length, sym, ap, ◌∙◌, subst, arith}
+use Rattle.std.proofs.Common.{List, ◌+◌, length, sym, ap, ◌∙◌, subst, arith}
 use Rattle.std.proofs.lemmas.List.{with_items_is}
-use Rattle.pyr_bundle.specs.Parts.{processor_count}
 use Rattle.pyr_size.specs.Blocks.{noted}
 use Rattle.pyr_size.specs.declared.blocks.Block.{Block}
-use Rattle.pyr_size.proofs.Executed.{HasBlocks, no_blocks, blocks_more, all_blocks, exec_known}
+use Rattle.pyr_size.proofs.Executed.{HasBlocks, blocks_more, all_blocks, exec_known}
 use Rattle.pyr_size.proofs.blocks.blocks_of.Goals as goal
 
 pub note_blocks-requires-clause-known : goal.note_blocks-requires-clause-known

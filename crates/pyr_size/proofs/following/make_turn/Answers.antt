@@ -1,5 +1,4 @@
-use Rattle.std.proofs.Common.{◌≡◌, ◌<◌, ℕ, sym, ap, ◌∙◌, subst}
-use Rattle.pyr_bundle.specs.Parts.{processor_count}
+use Rattle.std.proofs.Common.{◌<◌, sym, ap, ◌∙◌, subst}
 use Rattle.pyr_num.specs.declared.ids.DatumId.{DatumId}
 use Rattle.pyr_net.specs.Net.{Rules}
 use Rattle.pyr_machine.specs.Machine.{LocalState}

@@ -1,4 +1,4 @@
-use Rattle.std.proofs.Common.{◌≡◌, ℕ}
+use Rattle.std.proofs.Common.{◌≡◌}
 use Rattle.pyr_machine.specs.Machine.{tag_rules}
 use Rattle.pyr_machine.specs.Counts.{steps_left}
 use Rattle.pyr_machine.specs.Station.{world_of}

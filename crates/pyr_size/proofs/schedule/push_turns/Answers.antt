@@ -1,4 +1,3 @@
-use Rattle.std.proofs.Common.{◌∙◌, ap, ◌++◌, List, ℕ}
 use Rattle.pyr_size.proofs.Turns.{again_more}
 use Rattle.pyr_size.proofs.schedule.push_turns.Goals as goal
 

@@ -1,4 +1,4 @@
-use Rattle.std.proofs.Common.{ℕ, map, ◌∙◌}
+use Rattle.std.proofs.Common.{map, ◌∙◌}
 use Rattle.pyr_num.specs.declared.ids.TaskId.{TaskId}
 use Rattle.pyr_size.specs.Followed.{number_of}
 use Rattle.pyr_size.proofs.Sent.{channels_known, sizes_noted, sizes_fine}
