@@ -11,7 +11,6 @@ use Rattle.pyr_seq.specs.Walk.{IsTopological}
 use Rattle.pyr_graph.specs.declared.placement.Placement.{Placement}
 use Rattle.pyr_graph.specs.System.{System, task_count, IsEdge, writer_of}
 use Rattle.pyr_graph.specs.Placements.{processor_of}
-use Rattle.pyr_bundle.specs.declared.raw_instr.RawInstr.{RawInstr}
 use Rattle.pyr_bundle.specs.declared.raw_instr.RawInstr.TheVariants.{Recv as RawRecv, Exec as RawExec, Send as RawSend}
 use Rattle.pyr_bundle.specs.declared.instr.Instr.{Instr}
 use Rattle.pyr_bundle.specs.declared.instr.Instr.TheVariants.{Recv, Exec, Send}

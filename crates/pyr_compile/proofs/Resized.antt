@@ -1,19 +1,16 @@
 -- A bundle with other capacities.
 use Rattle.std.proofs.Common.{◌≡◌, ℕ, zero, suc, ◌+◌, ◌<◌, ◌≤◌, List, [], ◌∷◌, ◌++◌, length, map, set, get_or, take, drop, add-one, refl, sym, ap, ◌∙◌, subst, arith}
 use Rattle.std.specs.Prelude.{All}
-use Rattle.std.proofs.Math.Seq.{drop-length}
-use Rattle.std.proofs.lemmas.List.{append-nil, length-map, get_or-map}
+use Rattle.std.proofs.lemmas.List.{length-map, get_or-map}
 use Rattle.pyr_graph.specs.declared.placement.Placement.{Placement}
 use Rattle.pyr_graph.specs.declared.plan.Plan.{Plan}
-use Rattle.pyr_graph.specs.System.{task_numbers}
 use Rattle.pyr_graphtext.specs.Program.{ProgramParts}
 use Rattle.pyr_bundle.specs.declared.capacity.Capacity.{Capacity}
 use Rattle.pyr_bundle.specs.declared.raw_channel.RawChannel.{RawChannel}
-use Rattle.pyr_bundle.specs.declared.raw_bundle.RawBundle.{RawBundle}
 use Rattle.pyr_bundle.specs.Laws.{send_count}
 use Rattle.pyr_bundle.specs.Parts.{Parts, raw_of, raw_channel_of, no_channel, channel_at, with_capacity}
 use Rattle.pyr_bundle.specs.WellFormed.{IsFineCapacity}
-use Rattle.pyr_emit.specs.Emission.{IsEmission, channels_of}
+use Rattle.pyr_emit.specs.Emission.{IsEmission}
 use Rattle.pyr_emit.specs.Meaning.{MeansTheSame}
 use Rattle.pyr_size.specs.Sizes.{resized, sized}
 use Rattle.pyr_compile.specs.Compiled.{roomy, HasPlanSizes, with_channels, SamePairs}

@@ -1,5 +1,5 @@
 -- Two bundles of one plan have one tag machine, whatever the code of their tasks.
-use Rattle.std.proofs.Common.{◌≡◌, ℕ, zero, suc, ◌+◌, ◌<◌, ◌≤◌, ◌⊎◌, if◌then◌else◌, List, [], ◌∷◌, length, map, get_or, slice_get, Option, Some, None, inl, inr, refl, sym, ap, ◌∙◌, subst, arith}
+use Rattle.std.proofs.Common.{◌≡◌, ℕ, zero, suc, ◌+◌, ◌<◌, ◌≤◌, ◌⊎◌, if◌then◌else◌, List, [], ◌∷◌, length, map, get_or, slice_get, Option, Some, None, inl, inr, refl, sym, ap, ◌∙◌, arith}
 use mathlib.Core.Path.{fun_ext}
 use Rattle.std.specs.List.{list_all}
 use Rattle.std.proofs.lemmas.Bool.{cases_lt}
@@ -8,25 +8,21 @@ use Rattle.pyr_num.specs.declared.ids.DatumId.{DatumId}
 use Rattle.pyr_net.specs.Net.{Rules}
 use Rattle.pyr_net.specs.Run.{end_of}
 use Rattle.pyr_net.specs.Occupancy.{occupancy}
-use Rattle.pyr_net.specs.declared.action.Action.{Action}
 use Rattle.pyr_net.specs.declared.action.Action.TheVariants.{Internal, Lacks}
 use Rattle.pyr_graph.specs.declared.placement.Placement.{Placement}
 use Rattle.pyr_graph.specs.declared.plan.Plan.{Plan}
-use Rattle.pyr_graph.specs.System.{task_numbers, task_count, reads_of, writes_of}
+use Rattle.pyr_graph.specs.System.{task_numbers, task_count}
 use Rattle.pyr_graphtext.specs.Program.{ProgramParts}
 use Rattle.pyr_bundle.specs.declared.raw_bundle.RawBundle.{RawBundle}
 use Rattle.pyr_bundle.specs.declared.raw_task.RawTask.{RawTask}
-use Rattle.pyr_bundle.specs.declared.raw_channel.RawChannel.{RawChannel}
-use Rattle.pyr_bundle.specs.declared.raw_instr.RawInstr.{RawInstr}
 use Rattle.pyr_bundle.specs.declared.bundle_task.BundleTask.{BundleTask}
-use Rattle.pyr_bundle.specs.declared.capacity.Capacity.{Capacity}
 use Rattle.pyr_bundle.specs.declared.instr.Instr.{Instr}
 use Rattle.pyr_bundle.specs.declared.instr.Instr.TheVariants.{Recv, Exec, Send}
 use Rattle.pyr_bundle.specs.Raw.{task_in}
-use Rattle.pyr_bundle.specs.Parts.{Parts, raw_of, raw_task_of, raw_channel_of, raw_instr_of, capacity_of, instr_of, datum_id, task_at, code_at, no_task}
+use Rattle.pyr_bundle.specs.Parts.{Parts, raw_task_of, raw_channel_of, raw_instr_of, capacity_of, instr_of, datum_id, task_at, no_task}
 use Rattle.pyr_machine.specs.Machine.{LocalState, tags, tag_rules, start, instr_at, action_by, worked_by, advanced, stashed, holds, datum_tag, datum_by, capacity_in, all_stored}
-use Rattle.pyr_emit.specs.Emission.{IsEmission, IsTaskOf, channels_of}
-use Rattle.pyr_size.specs.Sizes.{resized, sized}
+use Rattle.pyr_emit.specs.Emission.{IsEmission, channels_of}
+use Rattle.pyr_size.specs.Sizes.{resized}
 use Rattle.pyr_size.proofs.Turn.{one_run, follows_alike}
 use Rattle.pyr_compile.specs.Compiled.{roomy, HasPlanSizes}
 use Rattle.pyr_compile.specs.PlanRun.{plan_schedule}

@@ -1,8 +1,7 @@
-use Rattle.std.proofs.Common.{◌≡◌, ◌<◌, ℕ, List, map, sym, ap, subst, ◌∙◌}
+use Rattle.std.proofs.Common.{◌≡◌, ◌<◌, List, map, sym, ap, subst, ◌∙◌}
 use Rattle.std.specs.Prelude.{All}
 use Rattle.pyr_num.specs.declared.ids.TaskId.{TaskId}
 use Rattle.pyr_graph.specs.WholeGraph.{IsGraph}
-use Rattle.pyr_bundle.specs.declared.capacity.Capacity.{Capacity}
 use Rattle.pyr_bundle.specs.Parts.{task_count}
 use Rattle.pyr_bundle.specs.WellFormed.{IsFineCapacity}
 use Rattle.pyr_size.specs.Blocks.{order_schedule}
