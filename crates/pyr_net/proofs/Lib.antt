@@ -1,9 +1,14 @@
+pub mod Completing
 pub mod Diamond
 pub mod Exchange
 pub mod Front
 pub mod HandoverSteps
+pub mod Joined
 pub mod Locally
 pub mod Occupied
+pub mod PipelineRun
 pub mod Reach
 pub mod Sent
+pub mod Staged
 pub mod Update
+pub mod Waiting

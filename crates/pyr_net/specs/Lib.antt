@@ -3,4 +3,5 @@ pub mod Handover
 pub mod Laws
 pub mod Net
 pub mod Occupancy
+pub mod Pipeline
 pub mod Run

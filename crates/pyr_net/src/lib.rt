@@ -15,7 +15,7 @@ pub use drive::{first_enabled, run_to_end};
 pub use handover::{CONSUMER, Handover, PRODUCER};
 pub use handover_local::HandoverLocal;
 pub use laws::{
-    longest_runs_agree, occupancy_suffices, run_completes, runs_are_local, step_persists,
-    steps_commute,
+    longest_runs_agree, occupancy_suffices, pipelines_complete, run_completes, runs_are_local,
+    step_persists, steps_commute,
 };
 pub use net::Net;
