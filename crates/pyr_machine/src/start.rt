@@ -1,10 +1,10 @@
 // The processors of a bundle at their start.
-ghost use Rattle.std.specs.Prelude.{◌≡◌, ◌<◌, ◌≤◌, length, IfOk};
+ghost use Rattle.std.specs.Prelude.{◌≡◌, ◌<◌, ◌≤◌, length, map, IfOk};
 ghost use Rattle.pyr_num.specs.declared.limits.TheConstants.Limits.{INSTRUCTIONS};
 ghost use Rattle.pyr_bundle.specs.Parts.{processor_count};
 ghost use Rattle.pyr_machine.specs.Machine.{capacity_of};
 ghost use Rattle.pyr_machine.specs.Counts.{sends_to, all_sends};
-ghost use Rattle.pyr_machine.specs.Station.{IsFresh, AreFresh};
+ghost use Rattle.pyr_machine.specs.Station.{restarted, IsFresh, AreFresh};
 
 use crate::station::Station;
 use pyr_bundle::{Bundle, Instr};
@@ -40,8 +40,8 @@ fn room_for(bundle: &Bundle, p: u32) -> u32
     count
 }
 
-// How many parcels the channel from p to q may hold.
-fn capacity(bundle: &Bundle, p: u32, q: u32) -> u32
+/// How many parcels the channel from p to q may hold. Where there is no channel, 0.
+pub fn capacity(bundle: &Bundle, p: u32, q: u32) -> u32
     ensures { result ≡ capacity_of bundle.now p q }
 {
     for channel in bundle.channels() {
@@ -73,4 +73,13 @@ pub fn fresh_stations(alloc: Global, bundle: &Bundle) -> Result<Vec<Station>, Al
         stations.push(fresh_station(alloc, bundle, p)?)?;
     }
     Ok(stations)
+}
+
+/// Puts all processors back to their start. It takes no memory.
+pub fn restart_all(stations: &mut [Station])
+    ensures { stations.new ≡ map restarted stations.old }
+{
+    for station in stations.iter_mut() {
+        station.restart();
+    }
 }
