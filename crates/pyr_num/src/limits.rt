@@ -99,4 +99,9 @@ impl Limits {
     pub const CHANNELS: u32 = 4_032;
 
     pub const INSTRUCTIONS: u32 = 135_168;
+
+    // How many frames a bundle is run in, one after another. No text has them.
+    pub const LEAST_FRAMES: u32 = 1;
+
+    pub const FRAMES: u32 = 1_024;
 }
