@@ -1,37 +1,11 @@
 use crate::tests::reading::bundle_of;
-use crate::tests::texts::{CROSSING, DIAMOND, LEFT, MUTUAL, ROOMY, SWAPPED, UNMADE};
+use crate::tests::stepping::{run_out, step_any, step_one};
+use crate::tests::texts::{COUNTING, CROSSING, DIAMOND, LEFT, MUTUAL, ROOMY, SWAPPED, UNMADE};
 use pyr_bundle::Bundle;
 use pyr_machine::{State, Tags};
 use pyr_net::{Action, Net, run_to_end};
 use pyr_num::{DatumId, ProcId};
 use std::alloc::{AllocError, Global};
-
-// Makes a step where one can be made, of the smallest processor or of the greatest.
-fn step_any<N: Net>(net: &mut N, greatest: bool) -> bool {
-    let mut found = None;
-    for p in 0..net.actors() {
-        if net.enabled(p) && (greatest || found.is_none()) {
-            found = Some(p);
-        }
-    }
-    match found {
-        Some(p) if p < net.actors() && net.enabled(p) => {
-            net.step(p);
-            true
-        }
-        _ => false,
-    }
-}
-
-// Steps until there is no step, at most 1,000 times, and tells how many were made.
-fn run_out<N: Net>(net: &mut N, greatest: bool) -> u64 {
-    for count in 0..1000 {
-        if !step_any(net, greatest) {
-            return count;
-        }
-    }
-    1000
-}
 
 // A bundle of two processors, with the number of steps of its longest runs, where each processor
 // stands at their end and what it does next, and how many parcels are on their way from the first to
@@ -215,4 +189,39 @@ fn is_ten_in_both_orders(alloc: Global, text: &[u8]) -> bool {
 #[test]
 fn words_are_the_same_in_both_orders(rt: HostRuntime) {
     assert!(rt; is_ten_in_both_orders(rt.alloc(), DIAMOND));
+}
+
+// The first word of the second of two data at the second processor.
+fn counted(state: &State<'_>) -> Option<u64> {
+    if 1 < state.actors() {
+        state.word(ProcId(1), DatumId(1), 0)
+    } else {
+        None
+    }
+}
+
+// Whether a machine that is put back in the middle of a run, or at its end, runs as a new one.
+fn restarts(alloc: Global, bundle: &Bundle) -> Result<bool, AllocError> {
+    let mut state = State::new(alloc, bundle, 5)?;
+    // a parcel is in the stash, and its datum in the store of its sender
+    let half = step_one(&mut state, 0) && step_one(&mut state, 0) && step_one(&mut state, 1);
+    state.restart(7);
+    let fresh = counted(&state).is_none();
+    let first = run_out(&mut state, false) == 5 && counted(&state) == Some(17);
+    state.restart(8);
+    let second = run_out(&mut state, true) == 5 && counted(&state) == Some(18);
+    Ok(half && fresh && first && second)
+}
+
+// The same of the bundle that has this text.
+fn is_put_back(alloc: Global, text: &[u8]) -> bool {
+    match bundle_of(alloc, text) {
+        Ok(bundle) => restarts(alloc, &bundle) == Ok(true),
+        Err(_) => false,
+    }
+}
+
+#[test]
+fn a_machine_runs_again_in_another_frame(rt: HostRuntime) {
+    assert!(rt; is_put_back(rt.alloc(), COUNTING));
 }

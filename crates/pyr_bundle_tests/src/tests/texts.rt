@@ -20,6 +20,14 @@ print 1\nchannel 0 1 1\n\
 processor 0\nexec 0\nsend 1 0\n\
 processor 1\nrecv 0 0\nexec 1\nstop\n";
 
+// x is the number of the frame, on the first of two processors; y is x + 10, on the second.
+pub(crate) const COUNTING: &[u8] = b"pyrros 1\nprocessors 2\ndatum x 1\ndatum y 1\n\
+task 0\nreads\nwrites 0\npush 0\nframe\nput 0\nend\n\
+task 0\nreads 0\nwrites 1\npush 0\npush 0\nget 0\npush 10\nadd\nput 0\nend\n\
+print 1\nprint 0\nchannel 0 1 1\n\
+processor 0\nexec 0\nsend 1 0\n\
+processor 1\nrecv 0 0\nexec 1\nstop\n";
+
 // Each of two processors waits for the other first.
 pub(crate) const MUTUAL: &[u8] = b"pyrros 1\nprocessors 2\ndatum x 1\ndatum y 1\n\
 task 0\nreads 1\nwrites 0\npush 0\npush 0\nget 0\nput 0\nend\n\
