@@ -1,0 +1,17 @@
+pub mod Bundles
+pub mod Changes
+pub mod Channels
+pub mod Courses
+pub mod Distinct
+pub mod Greatest
+pub mod Kept
+pub mod Lines
+pub mod Passes
+pub mod Passing
+pub mod Past
+pub mod Projected
+pub mod Rooms
+pub mod Roomy
+pub mod Seats
+pub mod Sends
+pub mod Showing
