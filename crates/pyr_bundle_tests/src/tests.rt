@@ -1,6 +1,7 @@
 // What each file tests is told by its name.
 mod bundle;
 mod bundletext;
+mod calm;
 mod compile;
 mod emit;
 mod ends;
