@@ -11,7 +11,8 @@ use Rattle.pyr_net.specs.Net.{World, IsEnabled, IsPossible, action_at}
 use Rattle.pyr_net.specs.Run.{IsRun, end_of, IsEnded, IsComplete}
 use Rattle.pyr_net.specs.Pipeline.{joined, gains, side_by_side, IsSeries, IsStaged, IsSideBySide, GoesThrough}
 use Rattle.pyr_net.specs.declared.action.Action.TheVariants.{Take, Ended}
-use Rattle.pyr_net.proofs.Completing.{run_fits, unended_goes_on, is_bounded, ended_alike}
+use Rattle.pyr_net.proofs.Completing.{unended_goes_on, is_bounded, ended_alike}
+use Rattle.pyr_net.proofs.Occupied.{run_fits}
 use Rattle.pyr_net.proofs.Exchange.{completes}
 use Rattle.pyr_net.proofs.PipelineRun.{goes_through}
 use Rattle.pyr_net.proofs.Staged.{compare, front, possible_on, never_ended, takes_on, gains-at, ended_behind}

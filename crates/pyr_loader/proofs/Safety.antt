@@ -4,7 +4,8 @@ use Rattle.std.proofs.lemmas.List.{length-map, get_or-map}
 use Rattle.pyr_num.specs.declared.ids.DatumId.{DatumId}
 use Rattle.pyr_num.specs.declared.parcel.Parcel.{Parcel}
 use Rattle.pyr_net.specs.Run.{IsCompleteRun}
-use Rattle.pyr_net.proofs.Completing.{run_fits, unended_goes_on, is_bounded, ended_alike}
+use Rattle.pyr_net.proofs.Completing.{unended_goes_on, is_bounded, ended_alike}
+use Rattle.pyr_net.proofs.Occupied.{run_fits}
 use Rattle.pyr_seq.specs.Sequential.{value_of}
 use Rattle.pyr_bundle.specs.declared.instr.Instr.TheVariants.{Exec}
 use Rattle.pyr_bundle.specs.Parts.{Parts, IsBundle, code_at, task_id}
