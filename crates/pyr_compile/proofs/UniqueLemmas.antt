@@ -2,6 +2,7 @@
 use Rattle.std.proofs.Common.{◌≡◌, ◌<◌, ◌≤◌, ℕ, suc, List, [], ◌∷◌, ◌++◌, length, get_or, sym, ap, subst, ◌∙◌, refl, arith}
 use Rattle.std.specs.Prelude.{codes}
 use Rattle.std.specs.List.{flat_map}
+use Rattle.pyr_graph.proofs.NumberLemmas.{each-number}
 use Rattle.pyr_code.specs.Tree.{Code}
 use Rattle.pyr_graph.specs.declared.clustering.Clustering.{Clustering}
 use Rattle.pyr_graph.specs.declared.placement.Placement.{Placement}
@@ -11,7 +12,6 @@ use Rattle.pyr_graph.specs.Clusters.{cluster_numbers, times_in_clusters}
 use Rattle.pyr_graphtext.specs.Program.{ProgramParts}
 use Rattle.pyr_dsc.specs.State.{is_examined}
 use Rattle.pyr_dsc.specs.Run.{IsRun, state}
-use Rattle.pyr_dsc.proofs.PartitionLemmas.{each-number}
 use Rattle.pyr_dsc.proofs.UniqueLemmas.{one-run}
 use Rattle.pyr_merge.specs.Merge.{IsMerged}
 use Rattle.pyr_merge.proofs.PartLemmas.{some-times}

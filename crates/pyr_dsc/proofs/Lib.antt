@@ -1,5 +1,4 @@
 pub mod ChoiceLemmas
-pub mod PredecessorLemmas
 pub mod ProgressLemmas
 pub mod ScanLemmas
 pub mod HeadLemmas

@@ -6,6 +6,7 @@ use Rattle.pyr_graph.specs.declared.clustering.Step.{Step}
 use Rattle.pyr_graph.specs.declared.clustering.Clustering.{Clustering}
 use Rattle.pyr_graph.specs.Clusters.{cluster_numbers}
 use Rattle.pyr_graph.specs.System.{System, task_count}
+use Rattle.pyr_graph.proofs.NumberLemmas.{each-number}
 use Rattle.pyr_levels.specs.Path.{Weighted, IsParallelTime}
 use Rattle.pyr_levels.specs.Levels.{task_graph, AreBlevels}
 use Rattle.pyr_levels.specs.Scheduled.{scheduled_graph, AreTlevels, clusters_with}
@@ -15,7 +16,6 @@ use Rattle.pyr_dsc.specs.State.{State, is_examined, predecessors}
 use Rattle.pyr_dsc.specs.Rules.{IsStep, chosen, number_with, start_with}
 use Rattle.pyr_dsc.specs.Run.{state, AreSteps, AllExamined, IsRun}
 use Rattle.pyr_dsc.proofs.HeadLemmas.{next_free-free}
-use Rattle.pyr_dsc.proofs.PartitionLemmas.{each-number}
 
 -- two numbers neither of which is above the other
 same-number : (a b : ℕ) → a ≤ b → b ≤ a → a ≡ b

@@ -4,8 +4,8 @@ use Rattle.std.specs.Prelude.{nat_eq, nat_lt, nat_le, ◌&&◌, ◌||◌, replic
 use Rattle.std.proofs.lemmas.List.{get_or-replicate, length-replicate}
 use Rattle.pyr_graph.specs.declared.placement.Placement.{Placement}
 use Rattle.pyr_graph.specs.declared.plan.Plan.{Plan}
-use Rattle.pyr_dsc.specs.Choice.{numbers}
-use Rattle.pyr_dsc.proofs.ChoiceLemmas.{list_any-snoc}
+use Rattle.pyr_graph.specs.Numbers.{numbers}
+use Rattle.pyr_graph.proofs.NumberLemmas.{list_any-snoc}
 use Rattle.pyr_graph.specs.Placements.{processor_of}
 use Rattle.pyr_gantt.specs.declared.bars.TheConstants.{COLUMNS, BUSY, IDLE}
 use Rattle.pyr_gantt.specs.Gantt.{runs_in, is_busy}

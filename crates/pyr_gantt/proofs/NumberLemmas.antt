@@ -7,7 +7,7 @@ use Rattle.std.proofs.lemmas.List.{map-append, get_or-drop, length-drop}
 use Rattle.std.proofs.Math.Seq.{take-suc, take-append_seam}
 use Rattle.pyr_graph.specs.declared.placement.Placement.{Placement}
 use Rattle.pyr_graph.specs.declared.plan.Plan.{Plan}
-use Rattle.pyr_dsc.specs.Choice.{numbers}
+use Rattle.pyr_graph.specs.Numbers.{numbers}
 use Rattle.pyr_gantt.specs.declared.bars.TheConstants.{COLUMNS, BUSY, IDLE}
 use Rattle.pyr_gantt.specs.Gantt.{is_busy, bar}
 use Rattle.pyr_gantt.specs.Bars.{AreDrawn}

@@ -3,9 +3,9 @@ use Rattle.std.specs.Prelude.{ℕ, ◌+◌, ◌*◌, Bool, ◌&&◌, if◌then�
 use Rattle.std.specs.List.{flat_map, list_any}
 use Rattle.pyr_graph.specs.declared.placement.Placement.{Placement}
 use Rattle.pyr_graph.specs.declared.plan.Plan.{Plan}
+use Rattle.pyr_graph.specs.Numbers.{numbers, greatest}
 use Rattle.pyr_graph.specs.System.{task_count}
 use Rattle.pyr_graphtext.specs.Program.{ProgramParts, task_name}
-use Rattle.pyr_dsc.specs.Choice.{numbers, greatest}
 use Rattle.pyr_graph.specs.Placements.{processor_of}
 use Rattle.pyr_gantt.specs.declared.bars.TheConstants.{COLUMNS, BUSY, IDLE}
 

@@ -1,7 +1,7 @@
 // The bars of the processors.
 
 ghost use Rattle.std.specs.Prelude.{◌≡◌, ℕ, ◌<◌, ◌≤◌, ◌+◌, ◌*◌, ◌^◌, ◌&&◌, if◌then◌else◌, IfOk, length, nat_le, nat_lt, replicate, slice_index};
-ghost use Rattle.pyr_dsc.specs.Choice.{numbers};
+ghost use Rattle.pyr_graph.specs.Numbers.{numbers};
 ghost use Rattle.pyr_gantt.specs.Gantt.{time_of};
 ghost use Rattle.pyr_gantt.specs.Bars.{IsTimed, AreDrawn};
 

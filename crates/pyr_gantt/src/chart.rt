@@ -2,8 +2,8 @@
 
 ghost use Rattle.std.specs.Prelude.{◌≡◌, ◌<◌, ◌∷◌, ◌++◌, IfOk, OnOk, codes, decimal, length};
 ghost use Rattle.std.specs.List.{flat_map};
+ghost use Rattle.pyr_graph.specs.Numbers.{numbers};
 ghost use Rattle.pyr_graph.specs.System.{task_count};
-ghost use Rattle.pyr_dsc.specs.Choice.{numbers};
 ghost use Rattle.pyr_rcp.specs.Order.{IsPlaced, IsOrdered};
 ghost use Rattle.pyr_gantt.specs.Gantt.{task_line, bar_line, gantt_report};
 ghost use Rattle.pyr_gantt.specs.Bars.{IsTimed, AreDrawn};

@@ -1,4 +1,6 @@
 pub mod ListLemmas
+pub mod NumberLemmas
+pub mod SenderLemmas
 pub mod Counting
 pub mod RowLemmas
 pub mod EdgeLemmas

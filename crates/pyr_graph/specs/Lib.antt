@@ -1,4 +1,6 @@
 pub mod System
+pub mod Numbers
+pub mod Edges
 pub mod Clusters
 pub mod Placements
 pub mod Bounds

@@ -1,4 +1,4 @@
-use Rattle.pyr_dsc.specs.Choice.{numbers}
+use Rattle.pyr_graph.specs.Numbers.{numbers}
 use Rattle.pyr_gantt.specs.Bars.{AreDrawn}
 use Rattle.pyr_gantt.proofs.bars.bars_of.Given as goal
 

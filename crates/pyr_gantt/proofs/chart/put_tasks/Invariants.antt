@@ -1,6 +1,6 @@
 use Rattle.std.proofs.Common.{◌≡◌, ◌++◌}
 use Rattle.std.specs.List.{flat_map}
-use Rattle.pyr_dsc.specs.Choice.{numbers}
+use Rattle.pyr_graph.specs.Numbers.{numbers}
 use Rattle.pyr_gantt.specs.Gantt.{task_line}
 use Rattle.pyr_gantt.proofs.chart.put_tasks.Given as goal
 

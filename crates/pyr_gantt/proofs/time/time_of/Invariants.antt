@@ -1,5 +1,5 @@
 use Rattle.std.proofs.Common.{◌≡◌, take}
-use Rattle.pyr_dsc.specs.Choice.{greatest}
+use Rattle.pyr_graph.specs.Numbers.{greatest}
 use Rattle.pyr_gantt.proofs.time.time_of.Given as goal
 
 abbrev pub invariant-loop-finish : goal.invariant-loop-finish
