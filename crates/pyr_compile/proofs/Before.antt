@@ -12,8 +12,8 @@ use Rattle.pyr_graph.specs.declared.placement.Placement.{Placement}
 use Rattle.pyr_graph.specs.System.{System, task_count, datum_count, task_at, reads_of, writes_of, writer_of, IsEdge}
 use Rattle.pyr_graph.specs.WholeGraph.{IsGraph}
 use Rattle.pyr_graph.proofs.ListLemmas.{Contains-tested, tested-Contains}
-use Rattle.pyr_graph.specs.Placements.{processor_of}
-use Rattle.pyr_rcp.specs.Order.{IsPlaced, same_processor}
+use Rattle.pyr_graph.specs.Placements.{processor_of, same_processor}
+use Rattle.pyr_rcp.specs.Order.{IsPlaced}
 use Rattle.pyr_bundle.specs.declared.raw_instr.RawInstr.TheVariants.{Send}
 use Rattle.pyr_bundle.specs.Laws.{is_send, is_receive}
 use Rattle.pyr_emit.specs.Emission.{reads_it, writes_it, is_read_on, is_awaited, is_destination}

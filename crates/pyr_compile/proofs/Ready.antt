@@ -11,8 +11,8 @@ use Rattle.pyr_seq.specs.Walk.{IsTopological}
 use Rattle.pyr_graph.specs.declared.placement.Placement.{Placement}
 use Rattle.pyr_graph.specs.System.{System, task_count, datum_count, writer_of, IsEdge}
 use Rattle.pyr_graph.specs.WholeGraph.{IsGraph}
-use Rattle.pyr_graph.specs.Placements.{processor_of}
-use Rattle.pyr_rcp.specs.Order.{IsPlaced, same_processor}
+use Rattle.pyr_graph.specs.Placements.{processor_of, same_processor}
+use Rattle.pyr_rcp.specs.Order.{IsPlaced}
 use Rattle.pyr_bundle.specs.declared.raw_instr.RawInstr.{RawInstr}
 use Rattle.pyr_bundle.specs.declared.raw_instr.RawInstr.TheVariants.{Recv, Exec, Send}
 use Rattle.pyr_bundle.specs.declared.instr.Instr.{Instr}

@@ -7,8 +7,7 @@ use Rattle.std.proofs.lemmas.List.{flat_map_more, take_more}
 use Rattle.std.proofs.lemmas.List.Elements.{filter_agree}
 use Rattle.pyr_graph.specs.declared.placement.Placement.{Placement}
 use Rattle.pyr_graph.specs.System.{System, datum_count, writer_of}
-use Rattle.pyr_graph.specs.Placements.{processor_of}
-use Rattle.pyr_rcp.specs.Order.{same_processor}
+use Rattle.pyr_graph.specs.Placements.{processor_of, same_processor}
 use Rattle.pyr_bundle.specs.declared.raw_instr.RawInstr.{RawInstr}
 use Rattle.pyr_bundle.specs.declared.raw_instr.RawInstr.TheVariants.{Recv, Exec, Send}
 use Rattle.pyr_emit.specs.Emission.{data_read, data_written, is_awaited, receive_of, receives, is_destination, sends_of, sends, block_at}

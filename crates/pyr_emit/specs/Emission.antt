@@ -9,8 +9,7 @@ use Rattle.pyr_graph.specs.declared.placement.Placement.{Placement}
 use Rattle.pyr_graph.specs.declared.plan.Plan.{Plan}
 use Rattle.pyr_graph.specs.System.{System, task_count, datum_count, task_numbers, datum_numbers, reads_of, writes_of, writer_of, length_of}
 use Rattle.pyr_graphtext.specs.Program.{ProgramParts, datum_name, body_at}
-use Rattle.pyr_graph.specs.Placements.{processor_of}
-use Rattle.pyr_rcp.specs.Order.{same_processor}
+use Rattle.pyr_graph.specs.Placements.{processor_of, same_processor}
 use Rattle.pyr_bundle.specs.declared.raw_bundle.RawBundle.{RawBundle}
 use Rattle.pyr_bundle.specs.declared.raw_datum.RawDatum.{RawDatum}
 use Rattle.pyr_bundle.specs.declared.raw_task.RawTask.{RawTask}

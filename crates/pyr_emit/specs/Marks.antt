@@ -3,8 +3,7 @@ use Rattle.std.specs.Prelude.{◌≡◌, ℕ, ◌<◌, ◌≤◌, Bool, false, n
 use Rattle.std.specs.List.{flat_map, range_with_len}
 use Rattle.pyr_graph.specs.declared.placement.Placement.{Placement}
 use Rattle.pyr_graph.specs.System.{System, datum_count, writer_of}
-use Rattle.pyr_graph.specs.Placements.{processor_of}
-use Rattle.pyr_rcp.specs.Order.{same_processor}
+use Rattle.pyr_graph.specs.Placements.{processor_of, same_processor}
 use Rattle.pyr_bundle.specs.declared.raw_instr.RawInstr.{RawInstr}
 use Rattle.pyr_bundle.specs.declared.raw_instr.RawInstr.TheVariants.{Exec, Send}
 use Rattle.pyr_emit.specs.Emission.{is_read_on, receive_of, data_read, data_written}

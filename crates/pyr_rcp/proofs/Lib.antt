@@ -1,4 +1,3 @@
-mod LevelLemmas
 pub mod ReadyLemmas
 pub mod StartLemmas
 pub mod StepLemmas

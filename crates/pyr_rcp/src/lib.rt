@@ -3,7 +3,6 @@
 #![tactic(auto)]
 
 mod laws;
-mod levels;
 mod ordering;
 mod placed;
 mod queue;

@@ -2,8 +2,7 @@ use Rattle.std.proofs.Common.{ℕ, ◌<◌, ◌≤◌, ◌∷◌, ◌++◌, ◌&
 use Rattle.std.specs.List.{filter}
 use Rattle.std.proofs.lemmas.List.{take_all}
 use Rattle.pyr_graph.specs.System.{writer_of, datum_count}
-use Rattle.pyr_graph.specs.Placements.{processor_of}
-use Rattle.pyr_rcp.specs.Order.{same_processor}
+use Rattle.pyr_graph.specs.Placements.{processor_of, same_processor}
 use Rattle.pyr_bundle.specs.declared.raw_instr.RawInstr.TheVariants.{Recv}
 use Rattle.pyr_emit.specs.Emission.{data_read, receive_of}
 use Rattle.pyr_emit.specs.Marks.{is_marked}

@@ -1,7 +1,7 @@
 use Rattle.std.proofs.Common.{◌≡◌, ◌++◌, ◌&&◌, not, map, take}
 use Rattle.std.specs.List.{filter}
 use Rattle.pyr_graph.specs.System.{writer_of}
-use Rattle.pyr_rcp.specs.Order.{same_processor}
+use Rattle.pyr_graph.specs.Placements.{same_processor}
 use Rattle.pyr_emit.specs.Emission.{receive_of, data_read}
 use Rattle.pyr_emit.specs.Marks.{is_marked}
 use Rattle.pyr_emit.proofs.blocks.push_receives.Given as goal
