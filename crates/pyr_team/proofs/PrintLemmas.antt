@@ -10,12 +10,12 @@ use Rattle.pyr_seq.specs.Sequential.{value_of}
 use Rattle.pyr_bundle.specs.Parts.{Parts, IsBundle, processor_count, datum_count, datum_id, length_of, task_id}
 use Rattle.pyr_bundle.specs.declared.instr.Instr.TheVariants.{Exec}
 use Rattle.pyr_bundle.specs.Values.{IsOrderOf, tasks_of, printed, zeros}
-use Rattle.pyr_machine.specs.Good.{print_at}
+use Rattle.pyr_machine.specs.Good.{print_at, Prints}
 use Rattle.pyr_machine.specs.State.{numbers}
 use Rattle.pyr_machine.proofs.Output.{print_number, stands_within, known_print}
 use Rattle.pyr_proc.specs.Seated.{Seated, IsAtEnd}
 use Rattle.pyr_proc.specs.Laws.{HasValue, EndsHaveValues}
-use Rattle.pyr_team.specs.Team.{HasRunAs, HaveRun, Prints}
+use Rattle.pyr_team.specs.Team.{HasRunAs, HaveRun}
 use Rattle.pyr_team.specs.Homes.{IsHome, IsValue, list_at, AreCopied}
 use Rattle.pyr_team.proofs.HomeLemmas.{below_or_last}
 

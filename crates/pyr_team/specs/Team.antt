@@ -1,13 +1,7 @@
 -- What the run of a team gives.
 use Rattle.std.specs.Prelude.{◌≡◌, ℕ, List, length, Some, slice_get}
 use Rattle.pyr_bundle.specs.Parts.{Parts, processor_count}
-use Rattle.pyr_bundle.specs.Values.{IsOrderOf, printed}
 use Rattle.pyr_proc.specs.Seated.{Seated, IsFresh, HasRun}
-
--- these lists are what the bundle prints in a frame where its tasks run one by one, in whatever
--- order
-abbrev pub Prints : Parts → ℕ → List (List ℕ) → Type 0
-Prints b frame lists = (order : List ℕ) → IsOrderOf b frame order → lists ≡ printed b frame order
 
 -- processor p of a bundle after it has run frame 0 from its start: it stands at the end of its local
 -- run, and all its wires have passed on exactly their parcels

@@ -1,7 +1,8 @@
 // The outputs, out of the stores of the processors that have run.
 ghost use Rattle.std.specs.Prelude.{◌≡◌, ◌<◌, length, IfOk};
 ghost use Rattle.pyr_bundle.specs.Parts.{datum_count, length_of};
-ghost use Rattle.pyr_team.specs.Team.{Prints, HaveRun};
+ghost use Rattle.pyr_machine.specs.Good.{Prints};
+ghost use Rattle.pyr_team.specs.Team.{HaveRun};
 ghost use Rattle.pyr_team.specs.Homes.{IsHome, AreHomes, IsValue, AreCopied};
 
 use pyr_bundle::{Bundle, every_datum_has_a_value};

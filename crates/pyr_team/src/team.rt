@@ -1,11 +1,12 @@
 // Runs a team.
 ghost use Rattle.std.specs.Prelude.{◌≡◌, ◌+◌, ◌∷◌, ◌++◌, ◌<◌, ◌≤◌, [], ◌⊎◌, IfOk, IfSome, length, vec_len, vec_capacity};
 ghost use Rattle.std.specs.Vec.Iter.{into_iter_items};
+ghost use Rattle.pyr_machine.specs.Good.{Prints};
 ghost use Rattle.pyr_machine.specs.Machine.{start};
 ghost use Rattle.pyr_machine.specs.State.{state_world};
 ghost use Rattle.pyr_proc.specs.Seated.{AreFresh};
 ghost use Rattle.pyr_team.specs.Homes.{AreHomes, AreCopied};
-ghost use Rattle.pyr_team.specs.Team.{Prints, HaveRun};
+ghost use Rattle.pyr_team.specs.Team.{HaveRun};
 
 use crate::homes::homes;
 use crate::printing::{blank, outputs_of};

@@ -6,7 +6,7 @@ use Rattle.pyr_num.specs.declared.ids.DatumId.{DatumId}
 use Rattle.pyr_graphtext.specs.Program.{ProgramParts}
 use Rattle.pyr_bundle.specs.Parts.{Parts, IsBundle, raw_of}
 use Rattle.pyr_bundletext.specs.Answer.{StandsFor as IsTextOf}
-use Rattle.pyr_machine.specs.Good.{IsGood, Loads}
+use Rattle.pyr_machine.specs.Good.{IsGood, Loads, Prints}
 use Rattle.pyr_machine.specs.Counts.{step_count}
 use Rattle.pyr_emit.specs.Meaning.{MeansTheSame}
 use Rattle.pyr_loader.specs.Answer.{IsLoadOf}
@@ -14,7 +14,6 @@ use Rattle.pyr_loader.specs.Safe.{IsSafe}
 use Rattle.pyr_loader.proofs.Safety.{safe}
 use Rattle.pyr_seq.specs.Sequential.{value_of}
 use Rattle.pyr_bundle.specs.Values.{tasks_of, printed}
-use Rattle.pyr_team.specs.Team.{Prints}
 use Rattle.pyr_top.specs.OutputsText.{bundle_outputs}
 use Rattle.pyr_top.specs.Answers.{IsRunOutput}
 use Rattle.pyr_top.specs.Responding.{IsPrintedBy}
