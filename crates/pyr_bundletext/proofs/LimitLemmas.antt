@@ -8,7 +8,7 @@ use Rattle.std.proofs.lemmas.Bool.{eqb-true, ltb-true, leb-true}
 use Rattle.pyr_num.specs.declared.limits.Quantity.{Quantity}
 use Rattle.pyr_num.specs.declared.limits.Quantity.TheVariants as quantities
 use Rattle.pyr_num.specs.declared.limits.TheConstants.Limits.{LEAST_PROCESSORS, PROCESSORS, TASKS, DATUMS, LEAST_LENGTH, LENGTH, READS, ALL_READS, WRITES, NODES, ALL_NODES, LOOPS, COUNT, LOCALS, WORK, ALL_WORK, PRINTS, CHANNELS, INSTRUCTIONS}
-use Rattle.pyr_lex.proofs.Choices.{both}
+use Rattle.pyr_decimal.proofs.Choices.{both}
 use Rattle.pyr_code.specs.declared.op.Op.{Op as OpValue}
 use Rattle.pyr_code.specs.declared.op.Op.TheVariants as ops
 use Rattle.pyr_code.specs.Seen.{op_of, code_of as tree_of_ops}

@@ -7,9 +7,9 @@ use Rattle.std.proofs.lemmas.Bool.{eqb-true}
 use Rattle.std.proofs.lemmas.Option.{none-some}
 use Rattle.pyr_num.specs.declared.arithmetic.Bin.TheVariants.{Add, Sub, Mul, Div, Rem, And, Or, Xor, Shl, Shr, Min, Max, Eq, Lt}
 use Rattle.pyr_num.specs.Name.{is_name}
-use Rattle.pyr_lex.specs.Number.{number_of}
-use Rattle.pyr_lex.proofs.Numbers.{number_of-decimal, number_of_only}
-use Rattle.pyr_lex.proofs.Choices.{found, both}
+use Rattle.pyr_decimal.specs.Number.{number_of}
+use Rattle.pyr_decimal.proofs.Numbers.{number_of-decimal, number_of_only}
+use Rattle.pyr_decimal.proofs.Choices.{found, both}
 use Rattle.std.proofs.lemmas.List.{append_assoc, append-nil}
 use Rattle.std.proofs.lemmas.List.Concat.{flat_map-cons}
 use Rattle.pyr_bundletext.proofs.Cuts.{some_word}

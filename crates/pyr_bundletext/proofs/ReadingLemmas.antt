@@ -4,11 +4,11 @@ use Rattle.std.specs.Prelude.{◌==◌, nat_lt, ◌&&◌}
 use Rattle.std.proofs.lemmas.List.{append_assoc, append-nil, length-append}
 use Rattle.std.proofs.lemmas.List.Elements.{All-nil}
 use Rattle.pyr_num.specs.declared.limits.TheConstants.Limits.{LEAST_LENGTH, LENGTH}
+use Rattle.pyr_decimal.proofs.Choices.{both}
 use Rattle.pyr_bundle.specs.declared.raw_datum.RawDatum.{RawDatum}
 use Rattle.pyr_bundle.specs.Raw.{IsTaskWithinLimits}
 use Rattle.pyr_bundletext.specs.declared.line.Line.{Line}
 use Rattle.pyr_bundletext.specs.declared.line.Line.TheVariants.{Pyrros, Processors, Datum, Task, Reads, Writes, Plain, Loop, Done, End, Print, Channel, Processor, Instr, Stop}
-use Rattle.pyr_lex.proofs.Choices.{both}
 use Rattle.pyr_bundletext.specs.declared.line_fault.LineFault.{LineFault}
 use Rattle.pyr_bundletext.specs.declared.line_fault.LineFault.TheVariants as faults
 use Rattle.pyr_bundletext.specs.declared.stage.Stage.{Stage}

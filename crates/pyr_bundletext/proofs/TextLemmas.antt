@@ -7,7 +7,7 @@ use Rattle.std.proofs.lemmas.Grind.{flat_map-append}
 use Rattle.std.proofs.lemmas.List.Concat.{flat_map-cons}
 use Rattle.std.proofs.lemmas.Bool.{eqb-true, ltb-true}
 use Rattle.std.proofs.lemmas.Bool.Decides.{nat_tests}
-use Rattle.pyr_lex.proofs.Choices.{both}
+use Rattle.pyr_decimal.proofs.Choices.{both}
 use Rattle.pyr_code.specs.declared.op.Op.{Op as OpValue}
 use Rattle.pyr_code.specs.declared.op.Op.TheVariants as ops
 use Rattle.pyr_code.specs.Seen.{op_of, code_of as tree_of_ops}

@@ -7,7 +7,7 @@ use Rattle.std.specs.List.{list_all, AllByRecursion}
 use Rattle.std.proofs.lemmas.Fmt.{decimal_is_IsNumeral}
 use Rattle.std.proofs.lemmas.Bool.Decides.{nat_tests}
 use Rattle.pyr_num.specs.Name.{is_name, is_part}
-use Rattle.pyr_lex.proofs.Choices.{both}
+use Rattle.pyr_decimal.proofs.Choices.{both}
 use Rattle.pyr_bundletext.specs.Reading.{split, onto_first, lacks}
 use Rattle.pyr_bundletext.proofs.Cuts.{some_word}
 

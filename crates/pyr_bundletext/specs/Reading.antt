@@ -5,7 +5,7 @@ use Rattle.std.specs.List.{list_all}
 use Rattle.std.specs.Option.{option_map}
 use Rattle.pyr_num.specs.declared.arithmetic.Bin.TheVariants.{Add, Sub, Mul, Div, Rem, And, Or, Xor, Shl, Shr, Min, Max, Eq, Lt}
 use Rattle.pyr_num.specs.Name.{is_name}
-use Rattle.pyr_lex.specs.Number.{number_of}
+use Rattle.pyr_decimal.specs.Number.{number_of}
 use Rattle.pyr_bundle.specs.declared.raw_instr.RawInstr.TheVariants as instrs
 use Rattle.pyr_bundletext.specs.declared.plain_op.PlainOp.TheVariants as ops
 use Rattle.pyr_bundletext.specs.declared.line.Line.{Line}

@@ -9,7 +9,7 @@ use crate::line_fault::LineFault;
 use crate::plain_op::PlainOp;
 use crate::words::first_word;
 use pyr_bundle::{RawChannel, RawInstr};
-use pyr_lex::number;
+use pyr_decimal::number;
 use pyr_num::Name;
 use sqlite_items::Items;
 use std::alloc::Global;

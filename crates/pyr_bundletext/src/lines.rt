@@ -4,7 +4,7 @@ ghost use Rattle.std.specs.List.{AllByRecursion};
 ghost use Rattle.pyr_bundletext.specs.Text.{spaced, line};
 ghost use Rattle.pyr_bundletext.specs.Spelled.{IsWord};
 
-use pyr_lex::put_number;
+use pyr_decimal::put_number;
 use pyr_num::DatumId;
 use std::alloc::AllocError;
 

@@ -10,7 +10,7 @@ ghost use Rattle.pyr_bundletext.specs.Answer.{StandsFor};
 use crate::lines::{put_datum_ids, put_line};
 use crate::ops::put_ops;
 use pyr_bundle::{Bundle, BundleTask, Capacity, Instr, RawDatum};
-use pyr_lex::put_number;
+use pyr_decimal::put_number;
 use pyr_num::{DatumId, Limits, ProcId, TaskId};
 use std::alloc::{AllocError, Global};
 

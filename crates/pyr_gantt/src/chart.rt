@@ -10,9 +10,9 @@ ghost use Rattle.pyr_gantt.specs.Bars.{IsTimed, AreDrawn};
 
 use crate::bars::{COLUMNS, bars_of};
 use crate::time::time_of;
+use pyr_decimal::{put_decimal, put_number};
 use pyr_graph::{Placement, Plan};
 use pyr_graphtext::Program;
-use pyr_lex::{put_decimal, put_number};
 use pyr_num::TaskId;
 use std::alloc::{AllocError, Global};
 

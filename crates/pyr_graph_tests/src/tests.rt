@@ -5,6 +5,7 @@ mod bodies;
 mod body;
 mod bodygen;
 mod code;
+mod decimal;
 mod gantt;
 mod graph;
 mod graphtext;

@@ -10,18 +10,18 @@ use Rattle.std.proofs.lemmas.List.{take_at, drop_all, drop_more}
 use Rattle.std.proofs.lemmas.List.Sums.{prefix_len-le-length, prefix_len_stops}
 use Rattle.std.proofs.lemmas.Slice.Eq.{bytes_eq-Decides, starts_is}
 use Rattle.pyr_num.specs.Name.{is_part, is_name}
+use Rattle.pyr_decimal.specs.Number.{number_of}
+use Rattle.pyr_decimal.proofs.Choices.{both, first_or_second, mapped, found}
+use Rattle.pyr_decimal.proofs.Numbers.{number_of_only}
 use Rattle.pyr_lex.specs.declared.symbol.Symbol.{Symbol as SymbolKind}
 use Rattle.pyr_lex.specs.declared.symbol.Symbol.TheVariants as signs
 use Rattle.pyr_lex.specs.declared.token.Token.{Token}
 use Rattle.pyr_lex.specs.declared.token.Token.TheVariants.{Name, Number, Word, Symbol}
 use Rattle.pyr_lex.specs.Word.{word_text, words, word_of}
 use Rattle.pyr_lex.specs.Symbol.{symbol_text, symbols, front_symbol}
-use Rattle.pyr_lex.specs.Number.{number_of}
 use Rattle.pyr_lex.specs.Token.{IsToken, token_text}
 use Rattle.pyr_lex.specs.Line.{is_blank, belongs, ends_before}
 use Rattle.pyr_lex.specs.Reading.{name_token, run_token, front_token}
-use Rattle.pyr_lex.proofs.Choices.{both, first_or_second, mapped, found}
-use Rattle.pyr_lex.proofs.Numbers.{number_of_only}
 use Rattle.pyr_lex.proofs.Runs.{IsRun, name_run, number_run, word_run}
 
 -- ---- names, numbers and words

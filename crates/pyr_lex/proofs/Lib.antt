@@ -1,9 +1,6 @@
-pub mod Choices
 pub mod Counter
-pub mod Digits
 pub mod Fronts
 pub mod Lines
-pub mod Numbers
 pub mod Runs
 pub mod Steps
 pub mod Written

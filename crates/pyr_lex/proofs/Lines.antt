@@ -8,13 +8,13 @@ use Rattle.std.proofs.lemmas.Bool.{cases_Bool}
 use Rattle.std.proofs.lemmas.Bool.Decides.{nat_tests}
 use Rattle.std.proofs.lemmas.List.{drop_more, drop_at, length-take-le}
 use Rattle.std.proofs.lemmas.List.Folds.{drop_split}
+use Rattle.pyr_decimal.proofs.Choices.{both, mapped, cases_Option}
 use Rattle.pyr_lex.specs.declared.token.Token.{Token}
 use Rattle.pyr_lex.specs.declared.spanned_token.SpannedToken.{SpannedToken}
 use Rattle.pyr_lex.specs.Token.{IsToken, token_text}
 use Rattle.pyr_lex.specs.Line.{is_blank, has_no_token, ends_before, IsNextToken, AreTokensFrom, AreTokensOf, HasTokens}
 use Rattle.pyr_lex.specs.Reading.{front_token, with_token, tokens_from, spanned_tokens_of}
 use Rattle.pyr_lex.specs.Laws.{ReadingIsUnique, ReadingIsExact}
-use Rattle.pyr_lex.proofs.Choices.{both, mapped, cases_Option}
 use Rattle.pyr_lex.proofs.Steps.{comment, blank, no_token, first_token, a_token, nothing_left}
 use Rattle.pyr_lex.proofs.Fronts.{IsFront, front_is, front_only, token_starts}
 

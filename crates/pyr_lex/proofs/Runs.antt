@@ -7,6 +7,8 @@ use Rattle.std.proofs.lemmas.Bool.Decides.{nat_tests}
 use Rattle.std.proofs.lemmas.Fmt.{decimal_is_IsNumeral, decimal_nonempty}
 use Rattle.std.proofs.lemmas.Str.Parse.{digit_from_value}
 use Rattle.pyr_num.specs.Name.{is_start, is_part, is_name, is_reserved}
+use Rattle.pyr_decimal.proofs.Choices.{both, not_chosen}
+use Rattle.pyr_decimal.proofs.Numbers.{number_of-decimal, decimal_first, no_number_above}
 use Rattle.pyr_lex.specs.declared.word.Word.{Word as WordKind}
 use Rattle.pyr_lex.specs.declared.word.Word.TheVariants as kinds
 use Rattle.pyr_lex.specs.declared.token.Token.{Token}
@@ -14,8 +16,6 @@ use Rattle.pyr_lex.specs.declared.token.Token.TheVariants.{Name, Number, Word}
 use Rattle.pyr_lex.specs.Word.{word_text, word_of}
 use Rattle.pyr_lex.specs.Token.{token_text}
 use Rattle.pyr_lex.specs.Reading.{name_token, run_token}
-use Rattle.pyr_lex.proofs.Choices.{both, not_chosen}
-use Rattle.pyr_lex.proofs.Numbers.{number_of-decimal, decimal_first, no_number_above}
 
 -- the token is read from its text, which is of letters, digits and `_` alone
 pub record IsRun (t : Token) : Type 0 where

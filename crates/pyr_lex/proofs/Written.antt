@@ -6,6 +6,7 @@ use Rattle.std.proofs.lemmas.Bool.{cases_Bool}
 use Rattle.std.proofs.lemmas.Bool.Decides.{nat_tests}
 use Rattle.std.proofs.lemmas.List.Folds.{list_all-append}
 use Rattle.pyr_num.specs.Name.{is_part}
+use Rattle.pyr_decimal.proofs.Choices.{both}
 use Rattle.pyr_lex.specs.declared.symbol.Symbol.TheVariants as signs
 use Rattle.pyr_lex.specs.declared.token.Token.{Token}
 use Rattle.pyr_lex.specs.declared.token.Token.TheVariants.{Name, Number, Word, Symbol}
@@ -15,7 +16,6 @@ use Rattle.pyr_lex.specs.Line.{belongs, ends_before}
 use Rattle.pyr_lex.specs.Reading.{with_token, tokens_from, spanned_tokens_of, tokens_of}
 use Rattle.pyr_lex.specs.Spacing.{gap, text_behind, line_text, is_tight_behind, is_tight_before, is_tight, never_tight, PartsTokens}
 use Rattle.pyr_lex.specs.Laws.{WrittenIsRead}
-use Rattle.pyr_lex.proofs.Choices.{both}
 use Rattle.pyr_lex.proofs.Steps.{blank, nothing_left}
 use Rattle.pyr_lex.proofs.Runs.{name_run, number_run, word_run}
 use Rattle.pyr_lex.proofs.Fronts.{Starts, token_starts}

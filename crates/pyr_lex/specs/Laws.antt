@@ -1,11 +1,10 @@
 -- The laws of tokens.
-use Rattle.std.specs.Prelude.{◌≡◌, ◌↔◌, ◌<◌, ◌^◌, ◌==◌, ℕ, Bool, not, List, map, Some, decimal, IsTrue}
+use Rattle.std.specs.Prelude.{◌≡◌, ◌↔◌, ◌==◌, ℕ, Bool, not, List, map, Some, IsTrue}
 use Rattle.std.specs.List.{list_all}
 use Rattle.pyr_num.specs.Name.{reserved}
 use Rattle.pyr_lex.specs.declared.token.Token.{Token}
 use Rattle.pyr_lex.specs.declared.spanned_token.SpannedToken.{SpannedToken}
 use Rattle.pyr_lex.specs.Word.{words, word_text}
-use Rattle.pyr_lex.specs.Number.{number_of}
 use Rattle.pyr_lex.specs.Token.{AreTokens}
 use Rattle.pyr_lex.specs.Line.{AreTokensOf}
 use Rattle.pyr_lex.specs.Reading.{spanned_tokens_of, tokens_of}
@@ -20,11 +19,6 @@ ReadingIsUnique = (line : List ℕ) (ts us : List SpannedToken)
 abbrev pub ReadingIsExact : Type 0
 ReadingIsExact = (line : List ℕ) (ts : List SpannedToken)
     → (spanned_tokens_of line ≡ Some ts) ↔ AreTokensOf line ts
-
--- A number has one text, its decimal.
-abbrev pub NumberIsDecimal : Type 0
-NumberIsDecimal = (text : List ℕ) (n : ℕ)
-    → (number_of text ≡ Some n) ↔ ((n < 2 ^ 64) × (text ≡ decimal n))
 
 -- The words are those that a name may not be.
 abbrev pub WordsAreReserved : Type 0

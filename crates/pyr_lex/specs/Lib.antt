@@ -1,7 +1,6 @@
 pub mod Depth
 pub mod Laws
 pub mod Line
-pub mod Number
 pub mod Outcome
 pub mod Reading
 pub mod Spacing

@@ -4,12 +4,12 @@ use Rattle.std.specs.Prelude.{ℕ, zero, suc, ◌+◌, ◌-◌, ◌==◌, nat_lt
 use Rattle.std.specs.Option.{option_or}
 use Rattle.std.specs.List.{prefix_len}
 use Rattle.pyr_num.specs.Name.{is_part, is_name}
+use Rattle.pyr_decimal.specs.Number.{number_of}
 use Rattle.pyr_lex.specs.declared.token.Token.{Token}
 use Rattle.pyr_lex.specs.declared.token.Token.TheVariants.{Name, Number, Word, Symbol}
 use Rattle.pyr_lex.specs.declared.spanned_token.SpannedToken.{SpannedToken}
 use Rattle.pyr_lex.specs.Word.{word_of}
 use Rattle.pyr_lex.specs.Symbol.{symbol_text, front_symbol}
-use Rattle.pyr_lex.specs.Number.{number_of}
 use Rattle.pyr_lex.specs.Token.{tokens_in}
 use Rattle.pyr_lex.specs.Line.{is_blank}
 

@@ -1,6 +1,6 @@
 // The laws of tokens, for the crates above. A law is a function with no code, whose contract is it.
-ghost use Rattle.pyr_lex.specs.Laws.{ReadingIsUnique, ReadingIsExact, WrittenIsRead};
-ghost use Rattle.pyr_lex.specs.Laws.{NumberIsDecimal, WordsAreReserved};
+ghost use Rattle.pyr_lex.specs.Laws.{ReadingIsUnique, ReadingIsExact};
+ghost use Rattle.pyr_lex.specs.Laws.{WrittenIsRead, WordsAreReserved};
 
 /// A line has one list of tokens at most, and no other places for them.
 pub fn reading_is_unique()
@@ -10,11 +10,6 @@ pub fn reading_is_unique()
 /// What is computed of a line is its tokens.
 pub fn reading_is_exact()
     ensures { ReadingIsExact }
-{}
-
-/// A text is read as a number exactly where it is the decimal of one below 2^64.
-pub fn number_is_decimal()
-    ensures { NumberIsDecimal }
 {}
 
 /// The words are those that no name is.

@@ -6,7 +6,8 @@ ghost use Rattle.pyr_lex.specs.Line.{is_blank, AreTokensOf};
 ghost use Rattle.pyr_lex.specs.Reading.{name_token, run_token, front_token, spanned_tokens_of};
 ghost use Rattle.pyr_lex.specs.Outcome.{IsRefused, Gives};
 
-use crate::{LexFault, SpannedToken, Symbol, Token, Word, number};
+use crate::{LexFault, SpannedToken, Symbol, Token, Word};
+use pyr_decimal::number;
 use pyr_num::{Limits, Name};
 use std::alloc::Global;
 

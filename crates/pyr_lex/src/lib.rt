@@ -1,30 +1,23 @@
 //! The lexer: the tokens of a line of a graph text, with the place of each, or the answer that the
-//! line has none; how many of its brackets are open at once; and tokens and numbers written out as
-//! canonical text. What a line's tokens are stands in `specs/Line.antt`, and that this decides them
-//! is a law.
+//! line has none; how many of its brackets are open at once; and tokens written out as canonical
+//! text. What a line's tokens are stands in `specs/Line.antt`, and that this decides them is a law.
 #![tactic(auto)]
 
 mod brackets;
-mod decimals;
 mod laws;
 mod lex_fault;
 mod lexer;
 mod line_writing;
-mod numeral;
 mod spanned_token;
 mod symbol;
 mod token;
 mod word;
 
 pub use brackets::depth;
-pub use decimals::{put_decimal, put_number};
-pub use laws::{
-    number_is_decimal, reading_is_exact, reading_is_unique, words_are_reserved, written_is_read,
-};
+pub use laws::{reading_is_exact, reading_is_unique, words_are_reserved, written_is_read};
 pub use lex_fault::LexFault;
 pub use lexer::tokens;
 pub use line_writing::write_line;
-pub use numeral::number;
 pub use spanned_token::SpannedToken;
 pub use symbol::Symbol;
 pub use token::Token;

@@ -3,8 +3,8 @@ ghost use Rattle.std.specs.Prelude.{◌≡◌, [], ◌∷◌, ◌++◌, OnOk};
 ghost use Rattle.pyr_lex.specs.Token.{IsToken, AreTokens, token_text};
 ghost use Rattle.pyr_lex.specs.Spacing.{is_tight, is_tight_behind, is_tight_before, gap_before, canonical_line};
 
-use crate::decimals::put_decimal;
 use crate::{Symbol, Token};
+use pyr_decimal::put_decimal;
 use std::alloc::AllocError;
 
 /// Appends the canonical text of a line with these tokens, and its line feed.

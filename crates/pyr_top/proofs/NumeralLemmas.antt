@@ -1,7 +1,7 @@
 -- Texts that write a number in a range, and texts that write none.
 use Rattle.std.proofs.Common.{◌≡◌, ◌≤◌, ◌<◌, ◌^◌, ℕ, List, Option, Some, None, unwrap_or, sym, ap, ◌∙◌, arith}
-use Rattle.pyr_lex.specs.Number.{number_of}
-use Rattle.pyr_lex.proofs.Numbers.{number_of-decimal, number_of_only}
+use Rattle.pyr_decimal.specs.Number.{number_of}
+use Rattle.pyr_decimal.proofs.Numbers.{number_of-decimal, number_of_only}
 use Rattle.pyr_top.specs.Numerals.{IsNumeralIn, NoNumeralIn}
 
 -- what is read is the numeral

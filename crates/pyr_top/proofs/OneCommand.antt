@@ -1,8 +1,8 @@
 -- Words ask for one command.
 use Rattle.std.proofs.Common.{◌≡◌, ◌<◌, ◌^◌, ℕ, List, [], ◌∷◌, Option, unwrap_or, if◌then◌else◌, sym, ap, ◌∙◌, arith}
 use Rattle.std.specs.Prelude.{codes, decimal, bytes_eq}
-use Rattle.pyr_lex.specs.Number.{number_of}
-use Rattle.pyr_lex.proofs.Numbers.{number_of-decimal}
+use Rattle.pyr_decimal.specs.Number.{number_of}
+use Rattle.pyr_decimal.proofs.Numbers.{number_of-decimal}
 use Rattle.pyr_top.specs.declared.command.Command.{Command}
 use Rattle.pyr_top.specs.declared.command.Command.TheVariants.{Seq, Cluster, Compile, Gantt, Check, Run, Make, VerifyMake}
 use Rattle.pyr_top.specs.Commands.{Spells}

@@ -5,9 +5,9 @@ ghost use Rattle.pyr_graph.specs.System.{task_count};
 ghost use Rattle.pyr_top.specs.ClusterReport.{step_line, cluster_report};
 
 use crate::figures::put_figure;
+use pyr_decimal::put_number;
 use pyr_graph::{Clustering, Step};
 use pyr_graphtext::Program;
-use pyr_lex::put_number;
 use std::alloc::{AllocError, Global};
 
 /// The first parallel time, a line for each step, and how many clusters there are.

@@ -3,7 +3,7 @@ ghost use Rattle.std.specs.Prelude.{◌≡◌, ◌≢◌, ◌∷◌, [], codes, 
 ghost use Rattle.pyr_top.specs.Commands.{texts, has_input, Spells, NoCommand};
 ghost use Rattle.pyr_top.specs.Numerals.{IsNumeralIn, NoNumeralIn};
 
-use pyr_lex::number;
+use pyr_decimal::number;
 use pyr_num::Limits;
 
 /// What the program is asked to do.

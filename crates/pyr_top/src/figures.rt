@@ -1,7 +1,7 @@
 // A number behind its name.
 ghost use Rattle.std.specs.Prelude.{◌≡◌, ◌++◌, ◌∷◌, decimal, OnOk};
 
-use pyr_lex::put_number;
+use pyr_decimal::put_number;
 use std::alloc::AllocError;
 
 /// Appends a name, a space and the decimal of a number.

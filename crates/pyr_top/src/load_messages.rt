@@ -5,7 +5,7 @@ ghost use Rattle.pyr_top.specs.LoadMessages.{load_line, reason_text, stop_text, 
 
 use crate::figures::put_figure;
 use crate::messages::{put_fault_at, put_limit};
-use pyr_lex::{put_decimal, put_number};
+use pyr_decimal::{put_decimal, put_number};
 use pyr_loader::{LoadFault, Reason, Stop};
 use pyr_num::{DatumId, ProcId};
 use std::alloc::{AllocError, Global};

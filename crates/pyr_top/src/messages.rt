@@ -3,8 +3,8 @@ ghost use Rattle.std.specs.Prelude.{◌≡◌, ◌++◌, ◌∷◌, [], codes, d
 ghost use Rattle.std.specs.List.{flat_map};
 ghost use Rattle.pyr_top.specs.Messages.{fault_line, quantity_name, kind_words, limit_line, cycle_line};
 
+use pyr_decimal::put_decimal;
 use pyr_graphtext::{NameKind, ProgramFault};
-use pyr_lex::put_decimal;
 use pyr_num::{Name, Quantity};
 use std::alloc::{AllocError, Global};
 

@@ -5,8 +5,8 @@ ghost use Rattle.pyr_top.specs.OutputsText.{output_line, output_lines};
 ghost use Rattle.pyr_top.specs.OutputsText.{printed_names, outputs_text, bundle_names, bundle_outputs};
 
 use pyr_bundle::Bundle;
+use pyr_decimal::put_number;
 use pyr_graphtext::Program;
-use pyr_lex::put_number;
 use pyr_num::{Name, Outputs, Words};
 use std::alloc::{AllocError, Global};
 

@@ -1,9 +1,9 @@
 // The plans of `pyr_rcp`, and the reports on them.
 use crate::tests::programs::{ELIMINATION, HEAVY, program_of};
+use pyr_decimal::put_number;
 use pyr_gantt::report;
 use pyr_graph::{Placement, Plan};
 use pyr_graphtext::{Program, ProgramFault};
-use pyr_lex::put_number;
 use pyr_num::ProcId;
 use pyr_rcp::{order, places_all};
 use sqlite_items::Items;

@@ -1,6 +1,6 @@
 ghost use Rattle.std.specs.Prelude.{◌≤◌, IfOk, vec_len};
 
-use pyr_lex::{LexFault, SpannedToken, Symbol, Token, Word, depth, number, tokens, write_line};
+use pyr_lex::{LexFault, SpannedToken, Symbol, Token, Word, depth, tokens, write_line};
 use pyr_num::Limits;
 use std::alloc::{AllocError, Global};
 use std::process::Abort;
@@ -217,8 +217,7 @@ fn writes_canonical_lines(rt: HostRuntime) -> Result<(), Fail> {
 }
 
 #[test]
-fn reads_and_tells_texts(rt: HostRuntime) {
-    assert!(rt; number(b"40") == Some(40) && number(b"040").is_none());
+fn reads_words_and_tells_texts(rt: HostRuntime) {
     assert!(rt; Word::from_text(b"frame") == Some(Word::Frame));
     assert!(rt; Word::from_text(b"frames").is_none());
     for (word, text) in &[(Word::Frame, b"frame".as_slice()), (Word::Min, b"min")] {

@@ -1,7 +1,7 @@
 use crate::tests::programs::program_of;
+use pyr_decimal::{put_decimal, put_number};
 use pyr_graph::{Clustering, Graph, Placement};
 use pyr_graphtext::ProgramFault;
-use pyr_lex::{put_decimal, put_number};
 use pyr_merge::{is_partition, merge};
 use pyr_num::{Limits, TaskId, TaskList};
 use sqlite_items::Items;

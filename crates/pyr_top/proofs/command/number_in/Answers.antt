@@ -1,6 +1,6 @@
 use Rattle.std.proofs.Common.{◌≡◌, ◌<◌, ◌≤◌, ◌^◌, Some, None, rules, arith}
 use Rattle.std.proofs.lemmas.List.{places}
-use Rattle.pyr_lex.specs.Number.{number_of}
+use Rattle.pyr_decimal.specs.Number.{number_of}
 use Rattle.pyr_top.specs.Numerals.{NoNumeralIn}
 use Rattle.pyr_top.proofs.NumeralLemmas.{nothing_read, other_read}
 use Rattle.pyr_top.proofs.command.number_in.Goals as goal

@@ -7,9 +7,9 @@ use Rattle.std.proofs.lemmas.Fmt.{decimal_is_IsNumeral, decimal_nonempty, decima
 use Rattle.std.proofs.lemmas.Slice.Eq.{bytes_eq-Decides}
 use Rattle.std.proofs.lemmas.Bool.Decides.{Decides-ltb}
 use Rattle.std.proofs.lemmas.Option.{cond_some}
-use Rattle.pyr_lex.specs.Number.{number_of}
-use Rattle.pyr_lex.specs.Laws.{NumberIsDecimal}
-use Rattle.pyr_lex.proofs.Choices.{both, not_chosen}
+use Rattle.pyr_decimal.specs.Number.{number_of}
+use Rattle.pyr_decimal.specs.Laws.{NumberIsDecimal}
+use Rattle.pyr_decimal.proofs.Choices.{both, not_chosen}
 
 own : IsNumeralModel (AllDigits 10) (digits_value 10)
 own = numerals_by_value (AllDigits 10) tells_digits

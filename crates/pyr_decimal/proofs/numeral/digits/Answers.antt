@@ -1,6 +1,6 @@
 use Rattle.std.proofs.Common.{arith}
-use Rattle.pyr_lex.proofs.Digits.{stops, ends}
-use Rattle.pyr_lex.proofs.numeral.digits.Goals as goal
+use Rattle.pyr_decimal.proofs.Digits.{stops, ends}
+use Rattle.pyr_decimal.proofs.numeral.digits.Goals as goal
 
 pub returns-in_err-number : goal.returns-in_err-number
 returns-in_err-number c =

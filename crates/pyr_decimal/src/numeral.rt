@@ -2,7 +2,7 @@
 ghost use Rattle.std.specs.Prelude.{◌≡◌, ◌+◌, ◌*◌, ◌<◌, ◌^◌, SomeIff};
 ghost use Rattle.std.specs.Char.{digit_value};
 ghost use Rattle.std.specs.Str.Parse.{digits_value, AllDigits};
-ghost use Rattle.pyr_lex.specs.Number.{number_of};
+ghost use Rattle.pyr_decimal.specs.Number.{number_of};
 
 // The number with one more digit behind it.
 fn with_digit(number: u64, byte: u8) -> Option<u64>

@@ -1,5 +1,0 @@
-use Rattle.pyr_lex.proofs.Numbers.{number_is_decimal}
-use Rattle.pyr_lex.proofs.laws.number_is_decimal.Goals as goal
-
-pub returns : goal.returns
-returns c = number_is_decimal
