@@ -1,5 +1,5 @@
 -- Clusterings: lists of clusters, each a list of tasks in order.
-use Rattle.std.specs.Prelude.{◌≡◌, ℕ, ◌+◌, if◌then◌else◌, List, [], ◌∷◌, nat_eq, nat_lt, map, count_by}
+use Rattle.std.specs.Prelude.{◌≡◌, ℕ, suc, ◌+◌, if◌then◌else◌, List, [], ◌∷◌, nat_eq, nat_lt, map, count_by}
 use Rattle.pyr_num.specs.declared.ids.TaskId.{TaskId}
 use Rattle.pyr_graph.specs.System.{System, task_count, task_numbers}
 
@@ -16,3 +16,9 @@ times_in_clusters (cluster ∷ clusters) t = count_by (nat_eq t) cluster + times
 abbrev pub IsPartition : System → List (List ℕ) → Type 0
 IsPartition s clusters =
     (t : ℕ) → times_in_clusters clusters t ≡ (if nat_lt t (task_count s) then 1 else 0)
+
+-- how many of these clusters hold a task
+abbrev pub filled : List (List ℕ) → ℕ
+filled [] = 0
+filled ([] ∷ clusters) = filled clusters
+filled ((t ∷ rest) ∷ clusters) = suc (filled clusters)
