@@ -27,12 +27,12 @@ IsParallelTime-same g a b one other =
     let (path', is', sum') = other.reached in
     omega (arith, sum, sum', other.greatest path is, one.greatest path' is')
 
-AreBlevels-same : (s : System) (xs ys : List ℕ) → AreBlevels s xs → AreBlevels s ys → xs ≡ ys
+pub AreBlevels-same : (s : System) (xs ys : List ℕ) → AreBlevels s xs → AreBlevels s ys → xs ≡ ys
 AreBlevels-same s xs ys one other = same-list xs ys (one.full ∙ sym other.full) (λ t inside.
     let t_in : t < task_count s = omega (arith, one.full) in
     IsBlevel-same (task_graph s) t (slice_index xs t) (slice_index ys t) (one.each t t_in) (other.each t t_in))
 
-AreTlevels-same : (s : System) (clusters : List (List ℕ)) (xs ys : List ℕ) → AreTlevels s clusters xs → AreTlevels s clusters ys → xs ≡ ys
+pub AreTlevels-same : (s : System) (clusters : List (List ℕ)) (xs ys : List ℕ) → AreTlevels s clusters xs → AreTlevels s clusters ys → xs ≡ ys
 AreTlevels-same s clusters xs ys one other = same-list xs ys (one.full ∙ sym other.full) (λ t inside.
     let t_in : t < task_count s = omega (arith, one.full) in
     IsTlevel-same (scheduled_graph s clusters) t (slice_index xs t) (slice_index ys t) (one.each t t_in) (other.each t t_in))

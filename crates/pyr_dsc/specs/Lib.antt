@@ -4,5 +4,8 @@ pub mod Rules
 pub mod Run
 pub mod Progress
 pub mod Heads
-pub mod Scans
 pub mod Laws
+pub mod Time
+pub mod Queues
+pub mod Lists
+pub mod Places

@@ -5,10 +5,11 @@
 mod clustering;
 mod head;
 mod laws;
+mod lists;
 mod placing;
-mod priorities;
 mod progress;
+mod sender;
 mod turn;
 
 pub use clustering::cluster;
-pub use laws::{a_graph_has_one_run, runs_keep_time, steps_keep_time};
+pub use laws::{a_graph_has_one_run, runs_keep_time, steps_keep_time, time_is_of_three};

@@ -45,7 +45,7 @@ senders-above : (edges : List Edge) (n : ℕ) → ((k : ℕ) (d : Edge) → k < 
 senders-above [] n above = tt
 senders-above (f ∷ edges) n above = (above 0 f (omega arith), senders-above edges n (λ k d inside. above (suc k) d (omega (arith, inside))))
 
-senders-rise : (edges : List Edge) → AllPairs (λ e f. e.task.0 < f.task.0) edges → Rises (senders edges)
+pub senders-rise : (edges : List Edge) → AllPairs (λ e f. e.task.0 < f.task.0) edges → Rises (senders edges)
 senders-rise [] up = tt
 senders-rise (f ∷ edges) up = (
   senders-above edges f.task.0 (λ k d inside. up 0 (suc k) d (omega arith) (omega (arith, inside))),
