@@ -4,7 +4,7 @@ use crate::tests::bundles::{
     with_lines,
 };
 use crate::tests::call::{gives, output, refuses};
-use crate::tests::graphs::{DIAMOND, ELIMINATION, FIVE};
+use crate::tests::graphs::{DIAMOND, ELIMINATION, FIVE, WAVEFRONT};
 use pyr_top::Status;
 use std::alloc::{AllocError, Global};
 use std::sync::Wait;
@@ -58,6 +58,10 @@ fn what_is_compiled_prints_what_its_graph_does(rt: HostRuntime) -> Result<(), Fa
         ("2", FIVE, b"accepted\nsteps 11\n"),
         ("2", ELIMINATION, b"accepted\nsteps 15\n"),
         ("4", ELIMINATION, b"accepted\nsteps 18\n"),
+        ("1", WAVEFRONT, b"accepted\nsteps 9\n"),
+        ("2", WAVEFRONT, b"accepted\nsteps 21\n"),
+        ("4", WAVEFRONT, b"accepted\nsteps 24\n"),
+        ("8", WAVEFRONT, b"accepted\nsteps 24\n"),
     ] {
         assert!(rt; is_kept(&rt, rt.alloc(), processors, text, report)?);
     }

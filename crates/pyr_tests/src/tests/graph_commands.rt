@@ -3,6 +3,7 @@ use crate::tests::bundles::{HEAVY_BUNDLE, TWO_BUNDLE};
 use crate::tests::call::{Call, gives};
 use crate::tests::graphs::{
     ARITHMETIC, CHAIN, DIAMOND, ELIMINATION, FIVE, HEAVY, JOINED, LOOPS, RESERVED, SEVEN, TWO,
+    WAVEFRONT,
 };
 use pyr_top::Status;
 use std::alloc::{AllocError, Global};
@@ -20,6 +21,7 @@ fn seq_prints_the_printed_data(rt: HostRuntime) -> Result<(), Fail> {
         (LOOPS, b"x = 0\n"),
         (ELIMINATION, b"e2 = 0 0 18446744073709551556\nd1 = 0 6 6\n"),
         (FIVE, b"w = 6\n"),
+        (WAVEFRONT, b"row1_0 = 1 2 3\nrow1_1 = 3 3 3\n"),
     ] {
         assert!(rt; gives(&rt, rt.alloc(), &["seq"], text, output)?);
     }

@@ -61,3 +61,39 @@ pub(crate) const JOINED: &[u8] = b"data x 1 10\ndata y 1 10\ndata z 1 0\n\
 task a 2\nwrites x\nput x[0] = 1\nend\n\
 task b 2\nwrites y\nput y[0] = 2\nend\n\
 task c 1\nreads x y\nwrites z\nput z[0] = (x[0] + y[0])\nend\nprint z\n";
+
+// `examples/subsequence.sh 2 3`: the longest common subsequence of two strings, in four blocks.
+pub(crate) const WAVEFRONT: &[u8] =
+    b"data edge 3 2\ndata a0 3 2\ndata b0 3 2\ndata a1 3 2\ndata b1 3 2\ndata row0_0 3 2\n\
+data column0_0 3 2\ndata row0_1 3 2\ndata column0_1 3 2\ndata row1_0 3 2\ndata column1_0 3 2\n\
+data row1_1 3 2\ndata column1_1 3 2\n\
+task edge 1\nwrites edge\nend\n\
+task make_a0 1\nwrites a0\nfor k 3\nset i = (0 + k)\n\
+put a0[k] = ((((i * i) + (3 * i)) % 23) % 4)\ndone\nend\n\
+task make_b0 1\nwrites b0\nfor k 3\nset i = (0 + k)\n\
+put b0[k] = (((((i * i) * i) + i) % 19) % 4)\ndone\nend\n\
+task make_a1 1\nwrites a1\nfor k 3\nset i = (3 + k)\n\
+put a1[k] = ((((i * i) + (3 * i)) % 23) % 4)\ndone\nend\n\
+task make_b1 1\nwrites b1\nfor k 3\nset i = (3 + k)\n\
+put b1[k] = (((((i * i) * i) + i) % 19) % 4)\ndone\nend\n\
+task block0_0 1\nreads a0 b0 edge\nwrites row0_0 column0_0\nfor j 3\nput row0_0[j] = edge[j]\n\
+done\nset corner = edge[2]\nfor i 3\nset left = edge[i]\nset next = left\nset letter = a0[i]\n\
+for j 3\nset above = row0_0[j]\n\
+set left = ((letter == b0[j]) ? (corner + 1) : (above max left))\nput row0_0[j] = left\n\
+set corner = above\ndone\nput column0_0[i] = left\nset corner = next\ndone\nend\n\
+task block0_1 1\nreads a0 b1 edge column0_0\nwrites row0_1 column0_1\nfor j 3\n\
+put row0_1[j] = edge[j]\ndone\nset corner = edge[2]\nfor i 3\nset left = column0_0[i]\n\
+set next = left\nset letter = a0[i]\nfor j 3\nset above = row0_1[j]\n\
+set left = ((letter == b1[j]) ? (corner + 1) : (above max left))\nput row0_1[j] = left\n\
+set corner = above\ndone\nput column0_1[i] = left\nset corner = next\ndone\nend\n\
+task block1_0 1\nreads a1 b0 row0_0 edge\nwrites row1_0 column1_0\nfor j 3\n\
+put row1_0[j] = row0_0[j]\ndone\nset corner = edge[2]\nfor i 3\nset left = edge[i]\n\
+set next = left\nset letter = a1[i]\nfor j 3\nset above = row1_0[j]\n\
+set left = ((letter == b0[j]) ? (corner + 1) : (above max left))\nput row1_0[j] = left\n\
+set corner = above\ndone\nput column1_0[i] = left\nset corner = next\ndone\nend\n\
+task block1_1 1\nreads a1 b1 row0_1 column1_0 row0_0\nwrites row1_1 column1_1\nfor j 3\n\
+put row1_1[j] = row0_1[j]\ndone\nset corner = row0_0[2]\nfor i 3\nset left = column1_0[i]\n\
+set next = left\nset letter = a1[i]\nfor j 3\nset above = row1_1[j]\n\
+set left = ((letter == b1[j]) ? (corner + 1) : (above max left))\nput row1_1[j] = left\n\
+set corner = above\ndone\nput column1_1[i] = left\nset corner = next\ndone\nend\n\
+print row1_0\nprint row1_1\n";
