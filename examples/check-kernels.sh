@@ -2,7 +2,7 @@
 # Runs each kernel at two sizes by `seq`, and by `run` on 1, 2, 4 and 8 processors what `compile` makes and `check`
 # accepts, and compares each output with what awk computes by the textbook loop, without blocks and without pyrros:
 # examples/check-kernels.sh [PROGRAM]
-# It ends with a line of counts, and with status 0 where all outputs agree, else with 1.
+# It ends with a line of counts, and with status 0 if all outputs agree, else with 1.
 set -u
 here=$(dirname "$0")
 program=${1:-${PYRROS:-$here/../crates/pyrros/out/pyrros}}
@@ -161,7 +161,12 @@ BEGIN {
 
 # compares an output with the reference: agrees FILE WHAT
 agrees() {
-    if cmp -s "$work/reference" "$1"; then agreed=$((agreed + 1)); else failed=$((failed + 1)); echo "differs: $2"; fi
+    if [ -s "$1" ] && cmp -s "$work/reference" "$1"; then
+        agreed=$((agreed + 1))
+    else
+        failed=$((failed + 1))
+        echo "differs: $2"
+    fi
 }
 
 # one kernel at one size: try KERNEL SIZE ..

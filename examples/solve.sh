@@ -1,11 +1,11 @@
 #!/bin/sh
 # Writes the graph text of N linear equations, solved modulo the prime 998244353 by elimination (Gauss and Jordan):
-# examples/solve.sh [N [PANEL]], 60 equations in panels of 12 columns unless told otherwise, N from 1 to 64.
+# examples/solve.sh [N [PANEL]], 60 equations in panels of 12 columns unless others are given, N from 1 to 64.
 # Each column is one datum of N words, and the columns of the unknowns are cut into panels of PANEL columns; the right
 # sides are a panel of their own. A task `factor` does the steps of one panel within it: in each column it looks for the
 # first row from the diagonal on that isn't 0, swaps it up, takes its inverse a^(p - 2) by powers, and leaves for each
 # row by how much of the pivot's row it changes. A task `update` does the steps of one panel to a later one. It prints
-# the determinant, which is 0 where there isn't one solution, and the solution.
+# the determinant, which is 0 if there isn't exactly one solution, and the solution.
 # The equations are M[i][0] x[0] + .. + M[i][N-1] x[N-1] = M[i][N] with M[i][j] = ((131 i + 17 j)^3) mod 1009; so the
 # first pivot is 0, and rows are swapped.
 exec awk -v n="${1:-60}" -v width="${2:-12}" '

@@ -1,6 +1,6 @@
 #!/bin/sh
 # Writes the graph text of an integer stencil, STEPS steps on a torus of 64 columns and STRIPS * ROWS rows:
-# examples/stencil.sh [STRIPS [ROWS [STEPS]]], 8 strips of 60 rows and 10 steps unless told otherwise.
+# examples/stencil.sh [STRIPS [ROWS [STEPS]]], 8 strips of 60 rows and 10 steps unless others are given.
 # In each step a cell becomes (4 * itself + north + south + west + east) / 8, rounded down. The grid is cut into strips
 # of rows, each row one datum of 64 words. A task makes one step of one strip: it reads the rows of its strip, and the
 # two halos, the last row of the strip to the north and the first row of the one to the south. So of what it writes only

@@ -1,6 +1,6 @@
 #!/bin/sh
 # Writes the graph text of the longest common subsequence of two strings: examples/subsequence.sh [BLOCKS [SIDE]]
-# Each string has BLOCKS * SIDE letters, 16 * 64 unless told otherwise, SIDE from 1 to 64. The table of the textbook,
+# Each string has BLOCKS * SIDE letters, 16 * 64 unless others are given, SIDE from 1 to 64. The table of the textbook,
 # L[i][j] = (a[i] == b[j] ? L[i-1][j-1] + 1 : max(L[i-1][j], L[i][j-1])), is cut into blocks of SIDE by SIDE cells, and
 # one task computes each block. Of a block only the last row and the last column are kept, one datum each: the block
 # below reads the row, the one to the right reads the column, and the one below and to the right the row for its last
