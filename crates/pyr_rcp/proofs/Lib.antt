@@ -4,7 +4,7 @@ pub mod StepLemmas
 pub mod MappedLemmas
 pub mod PlanLemmas
 pub mod UniqueLemmas
-mod SetLemmas
+mod ComingLemmas
 mod QueueLemmas
 mod TimetableLemmas
 mod WaitLemmas

@@ -8,7 +8,6 @@ mod placed;
 mod queue;
 mod ready;
 mod timetable;
-mod urgency;
 
 pub use laws::a_placement_has_one_plan;
 pub use ordering::order;
