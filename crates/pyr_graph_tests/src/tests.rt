@@ -11,6 +11,7 @@ mod graph;
 mod graphtext;
 mod levels;
 mod lex;
+mod lists;
 mod make;
 mod merge;
 mod net;
