@@ -2,9 +2,12 @@
 # Writes the graph text of a product of two matrices of N by N words, C = A B: examples/matrix.sh [N]
 # The three matrices are cut into blocks of 8 by 8 words, each one datum of 64 words, row by row. One task makes each
 # block of A and of B by a formula, and one task computes each block of C: it reads a row of blocks of A and a column
-# of blocks of B. The blocks of C are printed. N is a multiple of 8, up to 152; 80 unless another is given.
+# of blocks of B. The blocks of C are printed. N is a multiple of 8, up to 136; 80 unless another is given.
 # A[i][j] = (31 i i + 17 j + 7 i j + 5) mod 1009, B[i][j] = (13 i + 29 j j + 3 i j + 2) mod 1009
 exec awk -v n="${1:-80}" '
+# whether it is a whole number of the range
+function is_number(value, least, greatest) { return value ~ /^[0-9]+$/ && value + 0 >= least && value + 0 <= greatest }
+
 # COST: thousands of operations
 function cost(operations) { return operations < 1000 ? 1 : int(operations / 1000) }
 
@@ -24,8 +27,8 @@ function add_product(a, b, c) {
 }
 
 BEGIN {
-    if (n !~ /^[0-9]+$/ || n < 8 || n % 8) {
-        print "usage: matrix.sh [N], N a multiple of 8" > "/dev/stderr"
+    if (!is_number(n, 8, 136) || n % 8) {
+        print "usage: matrix.sh [N], N a multiple of 8, up to 136" > "/dev/stderr"
         exit 2
     }
     blocks = n / 8

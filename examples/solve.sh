@@ -1,6 +1,7 @@
 #!/bin/sh
 # Writes the graph text of N linear equations, solved modulo the prime 998244353 by elimination (Gauss and Jordan):
-# examples/solve.sh [N [PANEL]], 60 equations in panels of 12 columns unless others are given, N from 1 to 64.
+# examples/solve.sh [N [PANEL]], 60 equations in panels of 12 columns unless others are given, N from 1 to 64 and
+# PANEL from 1 to 12.
 # Each column is one datum of N words, and the columns of the unknowns are cut into panels of PANEL columns; the right
 # sides are a panel of their own. A task `factor` does the steps of one panel within it: in each column it looks for the
 # first row from the diagonal on that isn't 0, swaps it up, takes its inverse a^(p - 2) by powers, and leaves for each
@@ -9,8 +10,8 @@
 # The equations are M[i][0] x[0] + .. + M[i][N-1] x[N-1] = M[i][N] with M[i][j] = ((131 i + 17 j)^3) mod 1009; so the
 # first pivot is 0, and rows are swapped.
 exec awk -v n="${1:-60}" -v width="${2:-12}" '
-# whether it is a whole number, from `least` on
-function is_whole(value, least) { return value ~ /^[0-9]+$/ && value + 0 >= least }
+# whether it is a whole number of the range
+function is_number(value, least, greatest) { return value ~ /^[0-9]+$/ && value + 0 >= least && value + 0 <= greatest }
 
 # COST: thousands of operations
 function cost(operations) { return operations < 1000 ? 1 : int(operations / 1000) }
@@ -84,8 +85,8 @@ function update(panel, of,    j, k) {
 }
 
 BEGIN {
-    if (!is_whole(n, 1) || n > 64 || !is_whole(width, 1)) {
-        print "usage: solve.sh [N [PANEL]], N from 1 to 64" > "/dev/stderr"
+    if (!is_number(n, 1, 64) || !is_number(width, 1, 12)) {
+        print "usage: solve.sh [N [PANEL]], N from 1 to 64, PANEL from 1 to 12" > "/dev/stderr"
         exit 2
     }
     P = 998244353

@@ -1,6 +1,6 @@
 #!/bin/sh
 # Writes the graph text of a sort of BLOCKS blocks of PIECES * 64 words by a bitonic network (after Batcher, 1968):
-# examples/sort.sh [BLOCKS [PIECES]], 8 blocks of 8 pieces unless others are given, both powers of 2, PIECES up to 32.
+# examples/sort.sh [BLOCKS [PIECES]], 8 blocks of 8 pieces unless others are given, both powers of 2, PIECES up to 16.
 # A piece is one datum of 64 words. A task makes each piece and sorts it, a task `merge` makes a sorted block of its
 # pieces, and the tasks `split` are the comparators of the network: each reads two sorted blocks, and writes the lesser
 # half of their words to the first and the greater half to the second, both sorted. Inside a task the same network goes
@@ -98,8 +98,8 @@ function split_blocks(level, a, b,    d, levels) {
 }
 
 BEGIN {
-    if (!is_power(blocks) || !is_power(pieces) || pieces > 32) {
-        print "usage: sort.sh [BLOCKS [PIECES]], powers of 2, PIECES up to 32" > "/dev/stderr"
+    if (!is_power(blocks) || !is_power(pieces) || pieces > 16) {
+        print "usage: sort.sh [BLOCKS [PIECES]], powers of 2, PIECES up to 16" > "/dev/stderr"
         exit 2
     }
     start = pieces > 1

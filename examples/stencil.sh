@@ -7,8 +7,8 @@
 # two rows go to other strips. The rows after the last step are printed. At least 2 strips, from 2 to 62 rows each.
 # At the start the cell in row i and column j is (i i i + 7 i j + 11 j j) mod 1000003.
 exec awk -v strips="${1:-8}" -v rows="${2:-60}" -v steps="${3:-10}" '
-# whether it is a whole number, from `least` on
-function is_whole(value, least) { return value ~ /^[0-9]+$/ && value + 0 >= least }
+# whether it is a whole number of the range
+function is_number(value, least, greatest) { return value ~ /^[0-9]+$/ && value + 0 >= least && value + 0 <= greatest }
 
 # COST: thousands of operations
 function cost(operations) { return operations < 1000 ? 1 : int(operations / 1000) }
@@ -30,8 +30,8 @@ function step_row(t, i,    old) {
 }
 
 BEGIN {
-    if (!is_whole(strips, 2) || !is_whole(rows, 2) || !is_whole(steps, 1)) {
-        print "usage: stencil.sh [STRIPS [ROWS [STEPS]]], at least 2 strips of 2 rows, 1 step" > "/dev/stderr"
+    if (!is_number(strips, 2, 4000) || !is_number(rows, 2, 62) || !is_number(steps, 1, 4000)) {
+        print "usage: stencil.sh [STRIPS [ROWS [STEPS]]], at least 2 strips of 2 to 62 rows, 1 step" > "/dev/stderr"
         exit 2
     }
     for (t = 0; t <= steps; t++) for (i = 0; i < rows * strips; i++) print "data " row(t, i) " 64 2"

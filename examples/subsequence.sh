@@ -8,8 +8,8 @@
 # block; its last word is the length of the longest common subsequence.
 # Letters are numbers below 4: a[i] = ((i i + 3 i) mod 23) mod 4, b[i] = ((i i i + i) mod 19) mod 4.
 exec awk -v blocks="${1:-16}" -v side="${2:-64}" '
-# whether it is a whole number, from `least` on
-function is_whole(value, least) { return value ~ /^[0-9]+$/ && value + 0 >= least }
+# whether it is a whole number of the range
+function is_number(value, least, greatest) { return value ~ /^[0-9]+$/ && value + 0 >= least && value + 0 <= greatest }
 
 # COST: thousands of operations
 function cost(operations) { return operations < 1000 ? 1 : int(operations / 1000) }
@@ -43,8 +43,8 @@ function block(r, c,    up, left, corner, own, reads) {
 }
 
 BEGIN {
-    if (!is_whole(blocks, 1) || !is_whole(side, 1) || side > 64) {
-        print "usage: subsequence.sh [BLOCKS [SIDE]], SIDE up to 64" > "/dev/stderr"
+    if (!is_number(blocks, 1, 63) || !is_number(side, 1, 64)) {
+        print "usage: subsequence.sh [BLOCKS [SIDE]], BLOCKS up to 63, SIDE up to 64" > "/dev/stderr"
         exit 2
     }
     print "data edge " side " 2"
