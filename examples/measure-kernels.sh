@@ -1,10 +1,9 @@
 #!/usr/bin/env bash
-# What each kernel gains on 4 processors, as a table: examples/measure-kernels.sh [PROGRAM [RUNS]]
-# Its columns: tasks; messages on 4 processors; the plan's time on 1, 2, 4 and 8 processors; the milliseconds of `seq`
-# and of `run` on 4 processors, each the least of RUNS runs in turn (25), and after a comma those if no loop makes a
-# turn, which is what reading, checking, threads and messages take; how many times as fast `run` is; and how many times
-# as fast it is without what is after the commas. It fails if a command fails, or if `run` doesn't print what `seq`
-# prints.
+# What each kernel gains on threads, as a table: examples/measure-kernels.sh [PROGRAM [RUNS]]
+# Its columns: tasks; messages on 4 processors; the plan's time on 1, 2, 4 and 8 processors; the milliseconds of `seq`,
+# of `run` on 1, 2 and 4 processors, and of `run` on 4 if no loop makes a turn, which is what reading, checking, threads
+# and messages take; how many times as fast as `seq` the `run` on 4 is. Each time is the least of RUNS runs (25), all
+# commands in turn. It fails if a command fails, or if `run` doesn't print what `seq` prints.
 set -euo pipefail
 here=$(dirname "$0")
 program=${1:-${PYRROS:-$here/../crates/pyrros/out/pyrros}}
@@ -25,34 +24,30 @@ least() {
 
 # a row of the table: row KERNEL SIZE ..
 row() {
-    local i processors plan=''
+    local i processors
     "$here/$1.sh" "${@:2}" > "$work/graph"
-    for processors in 1 2 4 8; do
-        plan="$plan $("$program" gantt "$processors" < "$work/graph" | sed -n '1s/time //p') |"
-    done
-    "$program" compile 4 < "$work/graph" > "$work/bundle"
-    sed 's/^\(for [^ ]*\) .*/\1 0/' "$work/graph" > "$work/idle-graph"
-    sed 's/^\(loop [^ ]*\) .*/\1 0/' "$work/bundle" > "$work/idle-bundle"
+    for processors in 1 2 4; do "$program" compile "$processors" < "$work/graph" > "$work/bundle$processors"; done
+    sed 's/^\(loop [^ ]*\) .*/\1 0/' "$work/bundle4" > "$work/idle"
     rm -f "$work"/*.times
     for ((i = 0; i < runs; i++)); do
         seconds seq graph
-        seconds run bundle
-        seconds seq idle-graph
-        seconds run idle-bundle
-        cmp "$work/graph.words" "$work/bundle.words"
+        for processors in 1 2 4; do
+            seconds run "bundle$processors"
+            cmp "$work/graph.words" "$work/bundle$processors.words"
+        done
+        seconds run idle
     done
-    printf '| `%s` | %s |' "$*" "$(grep -c '^task' "$work/graph")"
-    printf ' %s |%s' "$(grep -c '^send' "$work/bundle")" "$plan"
-    awk -v seq="$(least graph)" -v run="$(least bundle)" -v read="$(least idle-graph)" -v load="$(least idle-bundle)" '
-        BEGIN {
-            printf " %d, %d | %d, %d |", seq, read, run, load
-            printf " %.1f | %.1f |\n", seq / run, (seq - read) / (run > load ? run - load : 1)
-        }'
+    printf '| `%s` | %s | %s |' "$*" "$(grep -c '^task' "$work/graph")" "$(grep -c '^send' "$work/bundle4")"
+    for processors in 1 2 4 8; do
+        printf ' %s |' "$("$program" gantt "$processors" < "$work/graph" | sed -n '1s/time //p')"
+    done
+    for input in graph bundle1 bundle2 bundle4 idle; do printf ' %s |' "$(least "$input")"; done
+    awk -v seq="$(least graph)" -v run="$(least bundle4)" 'BEGIN { printf " %.1f |\n", seq / (run > 0 ? run : 1) }'
 }
 
-printf '| kernel | tasks | messages | plan 1 | plan 2 | plan 4 | plan 8'
-printf ' | `seq`, ms | `run` on 4, ms | faster | in the loops |\n'
-printf '|---|---|---|---|---|---|---|---|---|---|---|\n'
+printf '| kernel | tasks | messages | plan 1 | plan 2 | plan 4 | plan 8 |'
+printf ' `seq` | `run` 1 | `run` 2 | `run` 4 | no turns | faster |\n'
+printf '|---|---|---|---|---|---|---|---|---|---|---|---|---|\n'
 row matrix 80
 row transform 64
 row solve 60 12
