@@ -24,6 +24,20 @@ fn seq_runs_the_generated_graph(rt: HostRuntime) -> Result<(), Fail> {
     Ok(())
 }
 
+// The capacities were counted along the plan by a program apart from this one.
+#[test]
+fn compile_gives_channels_the_room_that_the_plan_needs(rt: HostRuntime) -> Result<(), Fail> {
+    let text = output(&rt, rt.alloc(), &["make", "66"], b"")?;
+    let bundle = output(&rt, rt.alloc(), &["compile", "4"], &text)?;
+    let channels = b"\nchannel 0 3 1\nchannel 1 0 1\nchannel 1 3 1\nprocessor 0\n".as_slice();
+    assert!(rt;
+        bundle
+            .windows(channels.len())
+            .any(|piece| piece == channels)
+    );
+    Ok(())
+}
+
 #[test]
 fn verify_make_tells_a_summary(rt: HostRuntime) -> Result<(), Fail> {
     let summary = b"tasks 2\nprocessors 2\nmessages 0\nsteps 2\ntime 38\nsum 1\n";
