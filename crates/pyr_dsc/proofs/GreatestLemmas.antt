@@ -1,12 +1,11 @@
 -- The greatest key of a list, and the first number that has it.
-use Rattle.std.proofs.Common.{◌≡◌, ℕ, ◌≤◌, ◌⊎◌, max, Bool, true, false, Option, Some, None, List, [], ◌∷◌, inl, inr, refl, arith, ap, sym, eqb-true}
-use Rattle.std.specs.Prelude.{◌||◌, nat_eq, nat_lt, fold}
+use Rattle.std.proofs.Common.{◌≡◌, ℕ, ◌≤◌, Bool, true, false, Option, Some, None, List, [], ◌∷◌, inl, inr, refl, arith, ap, sym, eqb-true}
+use Rattle.std.specs.Prelude.{◌||◌, nat_eq, nat_lt}
 use Rattle.std.specs.List.{best_of}
 use Rattle.std.proofs.lemmas.Bool.{cases_Bool, cases_lt, lt-ltb, le-ltb}
 use Rattle.pyr_graph.proofs.ListLemmas.{nat_eq-same}
 use Rattle.pyr_graph.proofs.NumberLemmas.{Rises}
-use Rattle.pyr_graph.specs.Numbers.{holds, greatest}
-use Rattle.pyr_levels.proofs.ScheduledLemmas.{or-true}
+use Rattle.pyr_graph.specs.Numbers.{holds}
 use Rattle.pyr_dsc.specs.Choice.{first_greatest}
 use Rattle.pyr_dsc.specs.Time.{key_of}
 use Rattle.pyr_dsc.proofs.HeadLemmas.{first_greatest-held}

@@ -1,27 +1,27 @@
 -- What the examination of a task leaves: who is examined, what they finish at, and the latest exit.
-use Rattle.std.proofs.Common.{◌≡◌, ℕ, zero, suc, ◌+◌, ◌<◌, ◌≤◌, max, Bool, true, false, cond, Option, Some, None, List, [], ◌∷◌, ◌++◌, inl, inr, refl, arith, ap, sym, ◌∙◌, eqb-true, length}
-use Rattle.std.specs.Prelude.{◌||◌, ◌&&◌, not, nat_eq, filter, slice_index, IfSome}
+use Rattle.std.proofs.Common.{◌≡◌, ℕ, zero, suc, ◌<◌, ◌≤◌, max, true, false, Option, Some, None, List, [], ◌∷◌, ◌++◌, inl, inr, refl, arith, sym, ◌∙◌, eqb-true, length}
+use Rattle.std.specs.Prelude.{◌||◌, ◌&&◌, nat_eq, filter, slice_index, IfSome}
 use Rattle.std.specs.List.{list_any}
-use Rattle.std.proofs.lemmas.Bool.{cases_Bool, cases_eq}
+use Rattle.std.proofs.lemmas.Bool.{cases_Bool}
 use Rattle.pyr_graph.specs.declared.edge.Edge.{Edge}
-use Rattle.pyr_graph.specs.System.{System, task_count, cost_of, IsEdge, AreSuccessors}
-use Rattle.pyr_graph.specs.Numbers.{holds, greatest}
+use Rattle.pyr_graph.specs.System.{System, task_count, IsEdge, AreSuccessors}
+use Rattle.pyr_graph.specs.Numbers.{holds}
 use Rattle.pyr_graph.specs.Edges.{has_edge}
 use Rattle.pyr_graph.proofs.IndexLemmas.{edge_in}
-use Rattle.pyr_graph.proofs.ListLemmas.{nat_eq-same, nat_eq-apart}
+use Rattle.pyr_graph.proofs.ListLemmas.{nat_eq-same}
 use Rattle.pyr_graph.proofs.NumberLemmas.{tests_agree, kept-number, number-kept, some-passes, passes-some, greatest-ge, greatest-low}
 use Rattle.pyr_graph.proofs.SenderLemmas.{has_edge-IsEdge, IsEdge-has_edge}
 use Rattle.pyr_levels.specs.Scheduled.{AreTlevels, opened, appended, clusters_with}
 use Rattle.pyr_seq.specs.Walk.{IsTopological}
 use Rattle.pyr_levels.specs.Partial.{Clustered, IsPartialOf, IsExamined, clusters_of}
 use Rattle.pyr_levels.proofs.ClusterLemmas.{and-true, both-true, length-clusters_from}
-use Rattle.pyr_dsc.specs.State.{State, all_tasks, tlevel, finish, is_examined}
+use Rattle.pyr_dsc.specs.State.{State, all_tasks, finish, is_examined}
 use Rattle.pyr_dsc.specs.Run.{state}
 use Rattle.pyr_dsc.specs.Time.{is_exit, latest_exit}
 use Rattle.pyr_dsc.specs.Queues.{IsAfter}
 use Rattle.pyr_dsc.specs.declared.progress.Progress.{Progress}
 use Rattle.pyr_dsc.specs.Progress.{IsProgress, HasExamined, state_of, true_levels}
-use Rattle.pyr_dsc.proofs.HeldLemmas.{not-true, not-both, or-cases, or-left, or-right, or-false, holds-push, number-held, held-number}
+use Rattle.pyr_dsc.proofs.HeldLemmas.{not-both, or-cases, or-left, or-right, holds-push, number-held}
 use Rattle.pyr_dsc.proofs.ClosedLemmas.{is_in_some, in_some-with, with-in_some}
 use Rattle.pyr_dsc.proofs.TrueLemmas.{AreTlevels-true}
 use Rattle.pyr_dsc.proofs.TableLemmas.{in-partial, tlevel-kept, finish-kept}

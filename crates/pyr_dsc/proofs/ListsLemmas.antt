@@ -1,15 +1,15 @@
 -- The lists while the tasks that read from the examined one get their places.
-use Rattle.std.proofs.Common.{eqb-true, ◌≡◌, ℕ, zero, suc, ◌<◌, true, false, None, List, [], ◌∷◌, ◌++◌, refl, arith, inl, inr, sym, ◌∙◌, length, get_or, take}
-use Rattle.std.specs.Prelude.{nat_eq, slice_index, nat_lt}
+use Rattle.std.proofs.Common.{◌≡◌, ℕ, zero, suc, ◌<◌, true, false, None, List, [], ◌∷◌, ◌++◌, refl, arith, inl, inr, sym, ◌∙◌, length, get_or, take}
+use Rattle.std.specs.Prelude.{nat_lt}
 use Rattle.std.specs.List.{list_any, AllByRecursion}
-use Rattle.std.proofs.lemmas.Bool.{cases_Bool, cases_eq, false_from_ne_true}
+use Rattle.std.proofs.lemmas.Bool.{cases_eq, false_from_ne_true}
 use Rattle.pyr_graph.specs.declared.edge.Edge.{Edge}
-use Rattle.pyr_graph.specs.System.{System, task_count, IsEdge, AreSuccessors}
+use Rattle.pyr_graph.specs.System.{task_count, IsEdge, AreSuccessors}
 use Rattle.pyr_graph.specs.Numbers.{holds}
 use Rattle.pyr_graph.specs.Edges.{has_edge, senders}
 use Rattle.pyr_graph.proofs.IndexLemmas.{edge_in}
 use Rattle.pyr_seq.specs.Walk.{IsTopological}
-use Rattle.pyr_graph.proofs.ListLemmas.{tested-Contains, nat_eq-same, nat_eq-apart}
+use Rattle.pyr_graph.proofs.ListLemmas.{nat_eq-same, nat_eq-apart}
 use Rattle.pyr_graph.proofs.NumberLemmas.{Rises}
 use Rattle.pyr_graph.proofs.SenderLemmas.{sender-held, senders-rise, senders-all, has_edge-IsEdge, IsEdge-has_edge}
 use Rattle.pyr_levels.specs.Scheduled.{AreTlevels}
@@ -20,10 +20,8 @@ use Rattle.pyr_dsc.specs.State.{State, is_free, priority, is_examined, predecess
 use Rattle.pyr_dsc.specs.Queues.{IsQueueOf, free_entry, partly_free_entry, IsAfter, IsBetween}
 use Rattle.pyr_dsc.specs.Run.{state}
 use Rattle.pyr_dsc.specs.Lists.{AreLists, IsPlaced, IsWaiting}
-use Rattle.pyr_dsc.proofs.HeldLemmas.{and-false, not-both, or-cases, or-left, or-right}
-use Rattle.pyr_levels.specs.Partial.{Clustered, IsPartialOf, clusters_of, examined}
-use Rattle.pyr_levels.proofs.ClusterLemmas.{is_examined-some, examined-cluster_in}
-use Rattle.pyr_dsc.proofs.ClosedLemmas.{is_in_some, IsClosed}
+use Rattle.pyr_dsc.proofs.HeldLemmas.{and-false, not-both}
+use Rattle.pyr_dsc.proofs.ClosedLemmas.{IsClosed}
 use Rattle.pyr_dsc.proofs.TimeLemmas.{free-arrival}
 use Rattle.pyr_dsc.proofs.QueueStepLemmas.{free_entry-gone, free_entry-none, free_entry-same, partly_free_entry-gone, partly_free_entry-none, partly_free_entry-same, partly_free_entry-rises, reader-apart, reader-some, reader-still_new}
 use Rattle.pyr_dsc.proofs.QueueLemmas.{IsBetween-start, between-old, IsBetween-changed, IsBetween-end}

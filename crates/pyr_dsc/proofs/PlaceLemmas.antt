@@ -1,15 +1,14 @@
 -- The best cluster for a free task, by a scan over its predecessors.
-use Rattle.std.proofs.Common.{◌≡◌, ◌≢◌, ℕ, ◌<◌, ◌≤◌, Bool, true, false, Option, Some, None, List, [], ◌∷◌, ◌++◌, inl, inr, refl, arith, ap, sym, ◌∙◌, eqb-true}
-use Rattle.std.specs.Prelude.{◌||◌, ◌&&◌, not, nat_eq, nat_lt, filter, length}
+use Rattle.std.proofs.Common.{◌≡◌, ℕ, ◌<◌, ◌≤◌, Bool, true, false, Option, Some, None, List, [], ◌∷◌, ◌++◌, inl, inr, refl, arith, ap, sym, ◌∙◌, eqb-true}
+use Rattle.std.specs.Prelude.{◌||◌, not, nat_eq, nat_lt, length}
 use Rattle.std.specs.List.{list_any, best_of}
 use Rattle.std.proofs.lemmas.Bool.{cases_Bool, cases_eq, cases_lt, lt-ltb, le-ltb, false_from_ne_true}
 use Rattle.pyr_graph.proofs.ListLemmas.{nat_eq-same, nat_eq-apart}
 use Rattle.pyr_graph.proofs.NumberLemmas.{Rises, kept-rises, kept-number, number-kept, some-passes, passes-some}
-use Rattle.pyr_graph.specs.Numbers.{holds, numbers}
+use Rattle.pyr_graph.specs.Numbers.{holds}
 use Rattle.pyr_levels.specs.Scheduled.{cluster_at}
 use Rattle.pyr_levels.specs.Partial.{is_in}
 use Rattle.pyr_levels.proofs.ClusterLemmas.{and-true, both-true}
-use Rattle.pyr_levels.proofs.ScheduledLemmas.{or-true}
 use Rattle.pyr_dsc.specs.declared.head.Head.{Head}
 use Rattle.pyr_dsc.specs.Choice.{first_least}
 use Rattle.pyr_dsc.specs.State.{State, predecessors}

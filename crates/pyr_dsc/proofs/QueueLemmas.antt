@@ -1,19 +1,15 @@
 -- The two queues of a clustering: their heads are the next free and the next partly free task, and what
 -- one step changes in them.
-use Rattle.std.proofs.Common.{◌+◌, ◌≡◌, ℕ, ◌<◌, max, Bool, true, false, cond, Option, Some, None, List, [], ◌∷◌, ◌++◌, inl, inr, refl, arith, ap, sym, ◌∙◌, eqb-true, ◌≢◌}
+use Rattle.std.proofs.Common.{◌+◌, ◌≡◌, ℕ, ◌<◌, Bool, true, false, cond, Option, Some, None, List, [], ◌∷◌, ◌++◌, inl, inr, refl, arith, ap, sym, ◌∙◌, eqb-true, ◌≢◌}
 use Rattle.std.specs.Prelude.{◌&&◌, nat_eq, nat_lt, filter}
 use Rattle.std.proofs.lemmas.Bool.{cases_Bool, ltb-true, lt-ltb, le-ltb, cases_eq, cases_lt}
-use Rattle.pyr_num.specs.declared.ids.TaskId.{TaskId}
-use Rattle.pyr_graph.specs.System.{task_count}
 use Rattle.pyr_graph.specs.Numbers.{holds, numbers}
 use Rattle.pyr_graph.proofs.ListLemmas.{nat_eq-same, nat_eq-apart}
 use Rattle.pyr_graph.proofs.NumberLemmas.{kept-rises, kept-number, number-kept}
 use Rattle.pyr_levels.proofs.ClusterLemmas.{and-true}
 use Rattle.pyr_levels.proofs.ScheduledLemmas.{or-true}
-use Rattle.pyr_lists.specs.Queue.{Queue, priority_of, IsChanged, IsHead, IsFirst}
+use Rattle.pyr_lists.specs.Queue.{Queue, priority_of, IsChanged, IsFirst}
 use Rattle.pyr_dsc.specs.Choice.{first_greatest}
-use Rattle.pyr_dsc.specs.State.{State, is_free, is_partly_free, priority, partial_priority}
-use Rattle.pyr_dsc.specs.Rules.{next_free, next_partly_free}
 use Rattle.pyr_dsc.specs.Time.{key_of}
 use Rattle.pyr_dsc.specs.Heads.{head_with, key_of_head}
 use Rattle.pyr_dsc.specs.Queues.{IsQueueOf, IsBetween, entry_of}

@@ -1,23 +1,22 @@
 -- What the tables of a partial clustering tell of the state in which the next step begins.
-use Rattle.std.proofs.Common.{◌≡◌, ℕ, ◌+◌, ◌*◌, ◌<◌, ◌≤◌, Bool, true, false, Option, Some, None, List, [], ◌∷◌, inl, inr, refl, arith, sym, ◌∙◌}
-use Rattle.std.specs.Prelude.{◌&&◌, not, slice_index, is_some}
+use Rattle.std.proofs.Common.{◌≡◌, ℕ, ◌<◌, ◌≤◌, true, false, Option, Some, None, List, inl, inr, refl, arith, sym, ◌∙◌}
+use Rattle.std.specs.Prelude.{not, slice_index}
 use Rattle.std.specs.List.{list_all}
-use Rattle.std.proofs.lemmas.Bool.{cases_Bool}
-use Rattle.pyr_graph.specs.System.{System, task_count, cost_of, weight_of, IsEdge}
+use Rattle.pyr_graph.specs.System.{System, task_count}
 use Rattle.pyr_graph.specs.Bounds.{IsWithinLimits}
 use Rattle.pyr_graph.specs.Edges.{has_edge}
 use Rattle.pyr_graph.proofs.IndexLemmas.{edge_from}
 use Rattle.pyr_graph.proofs.ListLemmas.{tested-Contains}
 use Rattle.pyr_graph.proofs.NumberLemmas.{kept-number, number-kept, holds-list_all, list_all-holds, kept-held, greatest-ge, greatest-low}
 use Rattle.pyr_graph.proofs.SenderLemmas.{IsEdge-has_edge, has_edge-IsEdge}
-use Rattle.pyr_levels.specs.Levels.{heaviest, latest}
-use Rattle.pyr_levels.specs.Scheduled.{AreTlevels, cluster_at, last_of}
-use Rattle.pyr_levels.specs.Partial.{Clustered, IsPartialOf, IsExamined, IsNext, IsArrival, cluster_in, cluster_tasks, clusters_of, examined, end_by, end_in}
+use Rattle.pyr_levels.specs.Levels.{latest}
+use Rattle.pyr_levels.specs.Scheduled.{AreTlevels, last_of}
+use Rattle.pyr_levels.specs.Partial.{Clustered, IsPartialOf, IsExamined, IsNext, IsArrival, cluster_tasks, clusters_of, examined, end_by, end_in}
 use Rattle.pyr_levels.proofs.Unique.{IsTlevel-same}
 use Rattle.pyr_levels.proofs.RowsLemmas.{cluster-at}
 use Rattle.pyr_levels.proofs.ClusterLemmas.{is_examined-some, examined-cluster_in, and-true, both-true}
 use Rattle.pyr_levels.proofs.OthersLemmas.{examined-from_test, new-from_test}
-use Rattle.pyr_levels.proofs.KeptLemmas.{standing, examined-task, last-examined, finish-level, finish-weight, finish-small, arrival-small}
+use Rattle.pyr_levels.proofs.KeptLemmas.{standing, examined-task, last-examined, finish-level, finish-small, arrival-small}
 use Rattle.pyr_levels.proofs.ArrivalLemmas.{IsTlevel-arrival}
 use Rattle.pyr_dsc.specs.State.{State, tlevel, finish, predecessors, examined_predecessors, is_examined, is_free, arrival, partial_tlevel, end_after, end_of}
 use Rattle.pyr_dsc.specs.Run.{state}

@@ -1,6 +1,6 @@
 -- The top levels that the rules speak of are those of the scheduled graph.
-use Rattle.std.proofs.Common.{◌≡◌, ℕ, zero, suc, ◌+◌, ◌-◌, ◌<◌, ◌≤◌, true, false, cond, List, [], ◌∷◌, ◌++◌, ◌⊎◌, inl, inr, refl, arith, ap, ◌∙◌, length, length-append}
-use Rattle.std.specs.Prelude.{filter, map, slice_index, is_some}
+use Rattle.std.proofs.Common.{◌≡◌, ℕ, zero, suc, ◌+◌, ◌-◌, ◌<◌, ◌≤◌, false, cond, List, [], ◌∷◌, ◌⊎◌, inl, inr, refl, arith, ap, ◌∙◌, length, length-append}
+use Rattle.std.specs.Prelude.{filter, slice_index, is_some}
 use Rattle.std.proofs.lemmas.Bool.{cases_Bool, cases_lt}
 use Rattle.std.proofs.lemmas.List.{length-map, get_or-map, get_or_append_left, get_or-append_right}
 use Rattle.pyr_seq.specs.Walk.{IsTopological}

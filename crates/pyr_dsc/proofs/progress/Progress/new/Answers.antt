@@ -1,4 +1,4 @@
-use Rattle.std.proofs.Common.{◌≡◌, List, ℕ, [], sym, refl}
+use Rattle.std.proofs.Common.{◌≡◌, [], sym, refl}
 use Rattle.pyr_graph.specs.System.{task_numbers}
 use Rattle.pyr_levels.specs.Partial.{clusters_of}
 use Rattle.pyr_dsc.specs.Run.{state}
