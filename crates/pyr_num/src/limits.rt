@@ -45,6 +45,10 @@ pub enum Quantity {
     Channels,
     /// The instructions of all processors of a bundle together.
     Instructions,
+    /// The time that a task takes, in abstract time units.
+    Time,
+    /// The time that a datum takes from one processor to another, in abstract time units.
+    Delay,
 }
 
 /// The numbers of the limits, one constant for each. A constant named `LEAST_..` is the least number
@@ -99,6 +103,10 @@ impl Limits {
     pub const CHANNELS: u32 = 4_032;
 
     pub const INSTRUCTIONS: u32 = 135_168;
+
+    pub const TIME: u32 = 1_000_000;
+
+    pub const DELAY: u32 = 1_000_000;
 
     // How many frames a bundle is run in, one after another. No text has them.
     pub const LEAST_FRAMES: u32 = 1;

@@ -2,7 +2,7 @@
 use Rattle.std.specs.Prelude.{ℕ, List, ◌∷◌, ◌++◌, codes, decimal}
 use Rattle.std.specs.List.{flat_map}
 use Rattle.pyr_num.specs.declared.limits.Quantity.{Quantity}
-use Rattle.pyr_num.specs.declared.limits.Quantity.TheVariants.{Input, Processors, Tasks, Datums, Length, Comm, Cost, Reads, AllReads, Writes, Depth, Nodes, AllNodes, Loops, Count, Locals, Work, AllWork, Prints, Channels, Instructions}
+use Rattle.pyr_num.specs.declared.limits.Quantity.TheVariants.{Input, Processors, Tasks, Datums, Length, Comm, Cost, Reads, AllReads, Writes, Depth, Nodes, AllNodes, Loops, Count, Locals, Work, AllWork, Prints, Channels, Instructions, Time, Delay}
 use Rattle.pyr_num.specs.declared.name.Name.{Name}
 use Rattle.pyr_graphtext.specs.declared.program_fault.NameKind.{NameKind}
 use Rattle.pyr_graphtext.specs.declared.program_fault.NameKind.TheVariants.{Unknown, Duplicate, SecondWriter}
@@ -32,6 +32,8 @@ quantity_name AllWork = codes "all-work"
 quantity_name Prints = codes "prints"
 quantity_name Channels = codes "channels"
 quantity_name Instructions = codes "instructions"
+quantity_name Time = codes "time"
+quantity_name Delay = codes "delay"
 
 -- what stands before the name that may not stand where it stands
 abbrev pub kind_words : NameKind → List ℕ

@@ -129,5 +129,7 @@ fn quantity_name(quantity: Quantity) -> &'static [u8]
         Quantity::Prints => b"prints",
         Quantity::Channels => b"channels",
         Quantity::Instructions => b"instructions",
+        Quantity::Time => b"time",
+        Quantity::Delay => b"delay",
     }
 }
