@@ -26,8 +26,10 @@ mod text_lines;
 mod whole_fault;
 
 pub use laws::{any_order_gives_the_values, one_answer_is_told};
+pub use name_table::NameTable;
 pub use printing::print_program;
 pub use program::Program;
 pub use program_fault::{NameKind, ProgramFault};
 pub use reading::read_program;
 pub use running::sequential;
+pub use text_lines::first_line;

@@ -1,5 +1,5 @@
 // The lines of a text.
-ghost use Rattle.std.specs.Prelude.{◌≡◌, ◌+◌, ◌<◌, ◌≤◌, ◌∷◌, ◌==◌, length, not};
+ghost use Rattle.std.specs.Prelude.{◌≡◌, ◌+◌, ◌<◌, ◌≤◌, ◌∷◌, ◌==◌, drop, length, not};
 ghost use Rattle.std.specs.List.{prefix_len};
 ghost use Rattle.pyr_graphtext.specs.Lines.{lines};
 
@@ -17,6 +17,7 @@ pub fn first_line(text: &[u8]) -> (&[u8], &[u8])
     ensures cut { lines text.now ≡ result.0.now ∷ lines result.1.now }
     ensures shorter { length result.1.now < length text.now }
     ensures within { length result.0.now ≤ length text.now }
+    ensures behind { result.1.now ≡ drop (length result.0.now + 1) text.now }
 {
     let len = line_len(text);
     if len == text.len() {
