@@ -1,0 +1,12 @@
+pub mod CutLemmas
+pub mod GivenLemmas
+pub mod ReaderLemmas
+pub mod PathArgument
+pub mod LoadArgument
+pub mod ValueLemmas
+pub mod NextLemmas
+pub mod PathLemmas
+pub mod ScheduleLemmas
+pub mod DelayLemmas
+pub mod ArrivalLemmas
+pub mod PassLemmas

@@ -1,0 +1,9 @@
+pub mod Durations
+pub mod Input
+pub mod Given
+pub mod Reading
+pub mod Taking
+pub mod Bound
+pub mod Simulated
+pub mod Laws
+pub mod Passes
