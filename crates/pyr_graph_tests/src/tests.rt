@@ -18,3 +18,4 @@ mod net;
 mod num;
 mod port;
 mod programs;
+mod simul;
