@@ -106,6 +106,15 @@ const ROWS: &[(&str, &str)] = &[
         "durations\ntime a 0\ntime b 0\ntime c 0\ntime d 0\n",
         " 0 0 1 1, 0 0 1 1, path 0, 0 0 0",
     ),
+    // what takes no time stands at the front of the path, and not at its end
+    (
+        "durations\ntime a 0\ntime d 0\ntime b 9\ndelay x 0\ndelay y 0\n",
+        " 0 0 0 10, 0 9 10 10, path 0 2, 10 10 10",
+    ),
+    (
+        "durations\ntime b 1000000\n",
+        " 0 2 3 1000003, 2 1000002 13 1000004, path 0 1 3, 1000003 500007 1000003",
+    ),
     ("durations\ndurations\n", " 21 text"),
     ("durations\ntime q 1\n", " 21 unknown q"),
     ("durations\ntime q 2000000\n", " 21 limit time"),
@@ -125,28 +134,46 @@ const ROWS: &[(&str, &str)] = &[
     ("durations\ntime b 18446744073709551616\n", " 21 text"),
 ];
 
+// What is told of a graph text of four tasks with these lines behind it.
+fn told_of(rt: &impl Abort, alloc: Global, graph: &str, later: &str) -> Result<Vec<u8>, Fail> {
+    let mut input = Vec::from_slice(alloc, graph.as_bytes())?;
+    input.extend_from_slice(later.as_bytes())?;
+    assert!(rt; input.len() <= 1_000);
+    let parts = cut_input(&input);
+    assert_eq!(rt; parts.graph, graph.as_bytes());
+    let program = read_program(alloc, parts.graph)?;
+    let mut told = Vec::new(alloc);
+    let pushed = push_told(rt, alloc, &mut told, &program, parts.later, parts.line);
+    drop(program);
+    pushed?;
+    Ok(told)
+}
+
 #[test]
 fn simulates_with_the_durations_that_are_given(rt: HostRuntime) -> Result<(), Fail> {
     for (later, wanted) in ROWS {
-        let mut input = Vec::from_slice(rt.alloc(), HEAVY.as_bytes())?;
-        input.extend_from_slice(later.as_bytes())?;
-        assert!(rt; input.len() <= 1_000);
-        let parts = cut_input(&input);
-        assert_eq!(rt; parts.graph, HEAVY.as_bytes());
-        let program = read_program(rt.alloc(), parts.graph)?;
-        let mut told = Vec::new(rt.alloc());
-        let pushed = push_told(
-            &rt,
-            rt.alloc(),
-            &mut told,
-            &program,
-            parts.later,
-            parts.line,
-        );
-        drop(program);
-        pushed?;
+        let told = told_of(&rt, rt.alloc(), HEAVY, later)?;
         assert_eq!(rt; told.as_slice(), wanted.as_bytes(), "behind {later}");
     }
+    Ok(())
+}
+
+const INDEPENDENT: &str = "task a 3
+end
+task b 3
+end
+task c 3
+end
+task d 3
+end
+";
+
+// Eleven units on two processors take six at least, though no path takes more than three.
+#[test]
+fn the_bound_is_the_load_where_that_is_greater(rt: HostRuntime) -> Result<(), Fail> {
+    let told = told_of(&rt, rt.alloc(), INDEPENDENT, "durations\ntime a 2\n")?;
+    let wanted = b" 0 2 0 3, 2 5 3 6, path 1, 3 6 6";
+    assert_eq!(rt; told.as_slice(), wanted.as_slice());
     Ok(())
 }
 
