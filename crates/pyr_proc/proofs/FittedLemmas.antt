@@ -20,7 +20,9 @@ use Rattle.pyr_proc.specs.Entries.{store_of, entry, no_entry, entry_at}
 use Rattle.std.proofs.lemmas.Option.{get_or_from_slice_get}
 use Rattle.pyr_proc.proofs.EntryLemmas.{holds-store}
 use Rattle.pyr_proc.specs.Computing.{size_at, FillsIn}
-use Rattle.pyr_proc.specs.Fitted.{IsWhole, AllWhole, EntriesFit, IsReady, BuffersFit, StashFits, IsFitted}
+use Rattle.pyr_proc.specs.Buffers.{IsFront}
+use Rattle.pyr_proc.specs.Making.{AreUnheld}
+use Rattle.pyr_proc.specs.Fitted.{IsWhole, AllWhole, EntriesFit, StashFits, IsFitted}
 
 -- what a slice of a list's items comes back as
 pub written_back : {A : Type 0} (n : ℕ) (new old : List A) → n ≡ length old → length new ≡ length old → take n (new ++ drop (length new) old) ≡ new
@@ -115,30 +117,22 @@ entries_fill b p i t es fs h exec f = record {
     at d l (inl there) = h.sized.held d l there
     at d l (inr c) = h.written i t exec d c
 
-buffers_later : (b : Parts) (p from : ℕ) (bs : List (Option (List ℕ))) → BuffersFit b p from bs → BuffersFit b p (from + 1) bs
-buffers_later b p from bs h = record { count = h.count; ready = λ i to d l at. h.ready i to d (omega arith) at }
-
--- a list of words was taken
-buffers_taken : (b : Parts) (p from : ℕ) (bs : List (Option (List ℕ))) → BuffersFit b p from bs → BuffersFit b p (from + 1) (set bs from None)
-buffers_taken b p from bs h = record {
-  count = length-set bs from None ∙ h.count;
-  ready = λ i to d l at. subst (IsReady (length_of b d.0)) (sym (other bs from i (let n : i ≢ from = λ e. absurd (omega arith) in n))) (h.ready i to d (omega arith) at);
+-- the store was emptied
+pub entries_emptied : (b : Parts) (p : ℕ) (es fs : List Entry) → EntriesFit b p es → length fs ≡ length es → ((d : ℕ) → size_at fs d ≡ size_at es d) → AreUnheld fs → EntriesFit b p fs
+entries_emptied b p es fs h count sizes unheld = record {
+  sized = record {
+    count = count ∙ h.sized.count;
+    held = λ d l there. absurd (let f : true ≡ false = sym there ∙ unheld d in cc);
+  };
+  written = λ i t e d c. sizes d ∙ h.written i t e d c;
 }
-  where
-    other : (xs : List (Option (List ℕ))) (n i : ℕ) → i ≢ n → slice_get (set xs n None) i ≡ slice_get xs i
-    other [] n i ne = refl
-    other (y ∷ xs) zero zero ne = absurd (ne refl)
-    other (y ∷ xs) zero (suc i) ne = refl
-    other (y ∷ xs) (suc n) zero ne = refl
-    other (y ∷ xs) (suc n) (suc i) ne = other xs n i (λ e. ne (ap suc e))
 
-module _ (b : Parts) (p place : ℕ) (es : List Entry) (s : Held) (bs : List (Option (List ℕ))) (c : CellLists) (heads tails : List End) (h : IsFitted b p place es s bs c heads tails) where
+module _ (b : Parts) (p : ℕ) (es : List Entry) (s : Held) (c : CellLists) (heads tails : List End) (h : IsFitted b p es s c heads tails) where
   -- a parcel was taken in
-  pub fitted_take : (t : Held) (x : Parcel) (hs : List End) → IsWhole b x → t.parcels ≡ s.parcels ++ x ∷ [] → t.spare + 1 ≡ s.spare → length hs ≡ length heads → IsFitted b p place es t bs c hs tails
+  pub fitted_take : (t : Held) (x : Parcel) (hs : List End) → IsWhole b x → t.parcels ≡ s.parcels ++ x ∷ [] → t.spare + 1 ≡ s.spare → length hs ≡ length heads → IsFitted b p es t c hs tails
   fitted_take t x hs w e f l = record {
     entries_fit = h.entries_fit;
     stash_fits = stash_put b p s t x h.stash_fits w e f;
-    buffers_fit = h.buffers_fit;
     cells_fit = h.cells_fit;
     heads_fit = l ∙ h.heads_fit;
     tails_fit = h.tails_fit;
@@ -146,11 +140,10 @@ module _ (b : Parts) (p place : ℕ) (es : List Entry) (s : Held) (bs : List (Op
 
   -- a parcel was moved to the store
   pub fitted_move : (t : Held) (d : ℕ) (ws : List ℕ) (fs gs : List Entry) → d < datum_count b → holds parcel_tag d s.parcels ≡ true → ws ≡ words_in d s.parcels → gs ≡ set es d (entry ws) → fs ≡ gs →
-      t.parcels ≡ without parcel_tag d s.parcels → t.spare ≡ s.spare + 1 → IsFitted b p (place + 1) fs t bs c heads tails
+      t.parcels ≡ without parcel_tag d s.parcels → t.spare ≡ s.spare + 1 → IsFitted b p fs t c heads tails
   fitted_move t d ws fs gs low here w e g f r = record {
     entries_fit = subst (EntriesFit b p) (sym (g ∙ e)) (entries_put b p d es ws h.entries_fit low (ap (λ (v : List ℕ). length v) w ∙ whole_pick b d s.parcels h.stash_fits.whole here));
     stash_fits = stash_take b p d s t h.stash_fits here f r;
-    buffers_fit = buffers_later b p place bs h.buffers_fit;
     cells_fit = h.cells_fit;
     heads_fit = h.heads_fit;
     tails_fit = h.tails_fit;
@@ -158,32 +151,38 @@ module _ (b : Parts) (p place : ℕ) (es : List Entry) (s : Held) (bs : List (Op
 
   -- a task was executed
   pub fitted_exec : (i t : ℕ) (fs gs : List Entry) (k : CellLists) → IsExec b p i t → FillsIn (task_at b t).writes es gs → fs ≡ gs → k.slot_room ≡ c.slot_room → k.word_room ≡ c.word_room →
-      IsFitted b p (place + 1) fs s bs k heads tails
+      IsFitted b p fs s k heads tails
   fitted_exec i t fs gs k exec f g slots words = record {
     entries_fit = subst (EntriesFit b p) (sym g) (entries_fill b p i t es gs h.entries_fit exec f);
     stash_fits = h.stash_fits;
-    buffers_fit = buffers_later b p place bs h.buffers_fit;
     cells_fit = λ j u l e. let r = h.cells_fit j u l e in ((let m = r.0 in omega arith), (let m = r.1 in omega arith));
     heads_fit = h.heads_fit;
     tails_fit = h.tails_fit;
   }
 
   -- a datum was sent
-  pub fitted_send : (cs : List (Option (List ℕ))) (ts : List End) → cs ≡ set bs place None → length ts ≡ length tails → IsFitted b p (place + 1) es s cs c heads ts
-  fitted_send cs ts e l = record {
+  pub fitted_send : (ts : List End) → length ts ≡ length tails → IsFitted b p es s c heads ts
+  fitted_send ts l = record {
     entries_fit = h.entries_fit;
     stash_fits = h.stash_fits;
-    buffers_fit = subst (BuffersFit b p (place + 1)) (sym e) (buffers_taken b p place bs h.buffers_fit);
     cells_fit = h.cells_fit;
     heads_fit = h.heads_fit;
     tails_fit = l ∙ h.tails_fit;
   }
 
+  -- a frame is begun
+  pub fitted_begin : (fs gs : List Entry) → fs ≡ gs → length gs ≡ length es → ((d : ℕ) → size_at gs d ≡ size_at es d) → AreUnheld gs → IsFitted b p fs s c heads tails
+  fitted_begin fs gs is count sizes unheld = record {
+    entries_fit = subst (EntriesFit b p) (sym is) (entries_emptied b p es gs h.entries_fit count sizes unheld);
+    stash_fits = h.stash_fits;
+    cells_fit = h.cells_fit;
+    heads_fit = h.heads_fit;
+    tails_fit = h.tails_fit;
+  }
+
 -- the list that was taken for a send has the length of what is sent
-pub buffer_fits : (b : Parts) (p place : ℕ) (to : ProcId) (d : DatumId) (es : List Entry) (bs : List (Option (List ℕ))) (r : Option (List ℕ)) (ws : List ℕ) → EntriesFit b p es → BuffersFit b p place bs →
-    StandsAt b p place (Send to d) → d.0 < datum_count b → holds parcel_tag d.0 (store_of es) ≡ true → Some ws ≡ r → r ≡ get_or bs place r → length ws ≡ size_at es d.0
-buffer_fits b p place to d es bs r ws fit ready at low here e f =
-    let g = ready.ready place to d (omega arith) at in
-    let is : Some ws ≡ Some g.0 = e ∙ f ∙ get_or_from_slice_get bs place (Some g.0) r g.1 in
-    let same : ws ≡ g.0 = cc in
-    ap (λ (v : List ℕ). length v) same ∙ g.2 ∙ sym (fit.sized.held d.0 low (sym (holds-store d.0 es) ∙ here))
+pub buffer_fits : (b : Parts) (p : ℕ) (d : DatumId) (es : List Entry) (bs : List (List ℕ)) (ws : List ℕ) → EntriesFit b p es → IsFront (length_of b d.0) bs →
+    d.0 < datum_count b → holds parcel_tag d.0 (store_of es) ≡ true → ws ≡ get_or bs 0 ws → length ws ≡ size_at es d.0
+buffer_fits b p d es bs ws fit front low here e =
+    let same : ws ≡ front.words = e ∙ ap (λ l. get_or l 0 ws) front.front in
+    ap (λ (v : List ℕ). length v) same ∙ front.fits ∙ sym (fit.sized.held d.0 low (sym (holds-store d.0 es) ∙ here))

@@ -14,12 +14,12 @@ use Rattle.pyr_ends.specs.Ends.{end_for}
 use Rattle.pyr_proc.specs.Feed.{wire_end}
 use Rattle.pyr_proc.specs.Standing.{Standing}
 use Rattle.pyr_proc.specs.Seated.{seated, IsAtEnd, HasRun, IsAtRest}
-use Rattle.pyr_proc.specs.Running.{Remains, alone, IsRunning, GoesOn}
+use Rattle.pyr_proc.specs.Running.{begun, Remains, alone, IsRunning, GoesOn}
 use Rattle.pyr_proc.proofs.Remaining.{all_left, all_passed}
 use Rattle.pyr_proc.proofs.TrafficLemmas.{feeds_are, traffic_whole}
 
--- at rest before a frame, the processor is on its way through its local run
-module _ (steps frame ran : ℕ) (s : Standing) (is : IsBundle s.bundle) (good : IsGood s.bundle steps) (rest : IsAtRest (seated s ran)) (next : ran ≡ frame) (less : frame < s.frames) where
+-- where it has begun a frame, the processor is on its way through its local run
+module _ (steps frame ran : ℕ) (s : Standing) (is : IsBundle s.bundle) (good : IsGood s.bundle steps) (rest : IsAtRest (seated s ran)) (start_is : s.local ≡ new_local) (next : ran ≡ frame) (less : frame < s.frames) where
   some_order : (order : List ℕ) × IsOrderOf s.bundle frame order
   some_order = has_order s.bundle steps frame is good
 
@@ -34,9 +34,6 @@ module _ (steps frame ran : ℕ) (s : Standing) (is : IsBundle s.bundle) (good :
 
   last : Alone (LocalState Parcel) Parcel
   last = local_end (state_rules s.bundle frame) s.number left (alone_start s.bundle (parcel_of s.bundle frame some_order.0) s.number)
-
-  start_is : s.local ≡ new_local
-  start_is = rest.start (let f = rest.frames in omega arith)
 
   at_end : IsAtEnd s.bundle frame s.number last.local
   unfolding last left
@@ -79,6 +76,19 @@ module _ (steps frame ran : ℕ) (s : Standing) (is : IsBundle s.bundle) (good :
     whole = λ q l. traffic_whole s.bundle frame some_order.0 q s.number is some_order.1;
   }
 
+-- a processor at rest that begins a frame is at the start of it
+pub begun_new : (ran : ℕ) (s : Standing) → IsAtRest (seated s ran) → (begun s).local ≡ new_local
+begun_new ran s rest = λ i. record { place = 0; store = []; stash = rest.empty i }
+
+-- and still at rest
+pub begun_rests : (ran : ℕ) (s : Standing) → IsAtRest (seated s ran) → IsAtRest (seated (begun s) ran)
+begun_rests ran s rest = record {
+  known = rest.known;
+  within = rest.within;
+  empty = rest.empty;
+  wires = record { heads = rest.wires.heads; tails = rest.wires.tails };
+}
+
 -- the end of a local run
 record Ended (frame : ℕ) (s : Standing) : Type 0 where
   at_end : IsAtEnd s.bundle frame s.number s.local
@@ -101,7 +111,7 @@ ended frame s r none = at r.left r.leads r.tails
     at (suc n) h tails = absurd (subst (λ o. CanAlone (action_by (parcels s.bundle frame) s.bundle o s.local) (alone s.local r.inbox)) none h.is_run.0)
 
 -- a frame has been run
-pub has_run : (b : Parts) (frame ran : ℕ) (s t : Standing) → s.bundle ≡ b → GoesOn frame s t → slice_get (code_at b t.number) t.local.place ≡ None → ran ≡ frame → HasRun frame (seated s ran) (seated t (ran + 1))
+pub has_run : (b : Parts) (frame ran : ℕ) (s t : Standing) → s.bundle ≡ b → GoesOn frame (begun s) t → slice_get (code_at b t.number) t.local.place ≡ None → ran ≡ frame → HasRun frame (seated s ran) (seated t (ran + 1))
 has_run b frame ran s t same g none next =
     let e = ended frame t g.running (subst (λ c. slice_get (code_at c t.number) t.local.place ≡ None) (sym (g.bundle ∙ same)) none) in
     let one : suc frame ≡ ran + 1 = omega arith in
@@ -121,8 +131,7 @@ has_run b frame ran s t same g none next =
 pub rests : (frame ran : ℕ) (s t : Standing) → IsAtRest (seated s ran) → HasRun frame (seated s ran) (seated t (ran + 1)) → ran ≡ frame → frame < s.frames → IsAtRest (seated t (ran + 1))
 rests frame ran s t rest h next less = record {
   known = subst (λ b. t.number < processor_count b) (sym h.bundle) (subst (λ p. p < processor_count s.bundle) (sym h.number) rest.known);
-  frames = h.frames ∙ rest.frames;
   within = let f = h.frames in omega arith;
-  start = λ e. absurd (omega arith);
+  empty = h.local.stash;
   wires = h.wires;
 }

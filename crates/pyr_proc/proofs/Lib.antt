@@ -3,6 +3,7 @@ pub mod ComputingLemmas
 pub mod FittedLemmas
 pub mod Remaining
 pub mod RunningLemmas
+pub mod BufferLemmas
 pub mod MakingLemmas
 pub mod RoundsLemmas
 pub mod TrafficLemmas

@@ -7,11 +7,12 @@ use Rattle.pyr_bundle.specs.Parts.{Parts, task_id, code_at}
 use Rattle.pyr_bundle.specs.WellFormed.{IsWellFormed, StandsAt}
 use Rattle.pyr_machine.specs.State.{IsExec, task_slots, task_words}
 use Rattle.pyr_proc.specs.Fitted.{HasRoom}
-use Rattle.pyr_proc.specs.Making.{IsKnown, HasRoomFor, AreUnheld, written_at, AreListed, PreparesFirst, Prepares, ArePrepared, AreBuffered, IsBufferFor}
+use Rattle.pyr_proc.specs.Making.{IsKnown, HasRoomFor, AreUnheld, written_at, AreListed, PreparesFirst, Prepares, ArePrepared}
 use Rattle.pyr_proc.specs.declared.entry.Entry.{Entry}
 use Rattle.pyr_proc.specs.Entries.{no_entry, entry_at}
 use Rattle.pyr_proc.specs.Computing.{size_at}
-use Rattle.pyr_proc.specs.Fitted.{AllWhole, EntriesFit, IsReady, BuffersFit, IsFitted}
+use Rattle.pyr_proc.specs.Buffers.{send_lengths, repeated, sizes, IsStocked}
+use Rattle.pyr_proc.specs.Fitted.{AllWhole, EntriesFit, IsFitted}
 use Rattle.pyr_machine.specs.Counts.{all_sends}
 use Rattle.pyr_num.specs.Cells.{CellLists, no_lists}
 use Rattle.pyr_stash.specs.Held.{Held, held}
@@ -58,15 +59,6 @@ room_more b p code n d s w s' w' e l h f i t k exec = at (below_or i n k)
         let same : Some (get_or code n d) ≡ Some (Exec (task_id t)) = sym (stands_there b p code n d e l) ∙ ap (λ j. slice_get (code_at b p) j) (sym m) ∙ exec in
         let r = f t (let g : get_or code n d ≡ Exec (task_id t) = cc in g) in
         ((let q = r.0 in omega arith), (let q = r.1 in omega arith))
-
-slice_get-left : (xs ys : List (Option (List ℕ))) (i : ℕ) → i < length xs → slice_get (xs ++ ys) i ≡ slice_get xs i
-slice_get-left [] ys i l = absurd (omega arith)
-slice_get-left (x ∷ xs) ys zero l = refl
-slice_get-left (x ∷ xs) ys (suc i) l = slice_get-left xs ys i (omega arith)
-
-slice_get-here : (xs ys : List (Option (List ℕ))) (y : Option (List ℕ)) → slice_get (xs ++ y ∷ ys) (length xs) ≡ Some y
-slice_get-here [] ys y = refl
-slice_get-here (x ∷ xs) ys y = slice_get-here xs ys y
 
 -- an empty list for a datum
 abbrev blank : List ℕ → Entry
@@ -138,49 +130,26 @@ entries_fit b p n es l h = record {
       subst (λ k. size_at es k ≡ length_of b k) is (h.listed i t low exec c.0 none within within);
 }
 
--- one list of words more
-pub buffered_more : (b : Parts) (p n : ℕ) (code : List Instr) (none : Instr) (bs new : List (Option (List ℕ))) (o : Option (List ℕ)) → new ≡ bs ++ o ∷ [] → code ≡ code_at b p → n < length code → AreBuffered b p n bs →
-    IsBufferFor b (get_or code n none) o → AreBuffered b p (n + 1) new
-buffered_more b p n code none bs new o is e l h f = subst (AreBuffered b p (n + 1)) (sym is) (record {
-  count = let k = length-append bs (o ∷ []) in let c = h.count in omega arith;
-  ready = λ i to d k at. of i to d at (below_or i n k);
-})
-  where
-    of : (i : ℕ) (to : ProcId) (d : DatumId) → StandsAt b p i (Send to d) → (i < n) ⊎ (i ≡ n) → IsReady (length_of b d.0) (slice_get (bs ++ o ∷ []) i)
-    of i to d at (inl k) = subst (IsReady (length_of b d.0)) (sym (slice_get-left bs (o ∷ []) i (let c = h.count in omega arith))) (h.ready i to d k at)
-    of i to d at (inr k) =
-        let same : Some (get_or code n none) ≡ Some (Send to d) = sym (stands_there b p code n none e l) ∙ ap (λ j. slice_get (code_at b p) j) (sym k) ∙ at in
-        let instr : get_or code n none ≡ Send to d = cc in
-        let there : slice_get (bs ++ o ∷ []) i ≡ Some o = ap (λ j. slice_get (bs ++ o ∷ []) j) (k ∙ sym h.count) ∙ slice_get-here bs [] o in
-        subst (IsReady (length_of b d.0)) (sym there) (f to d instr)
-
-pub buffers_fit : (b : Parts) (p n : ℕ) (code : List Instr) (bs : List (Option (List ℕ))) → code ≡ code_at b p → n ≤ length code → length code ≤ n → AreBuffered b p n bs → BuffersFit b p 0 bs
-buffers_fit b p n code bs e l m h = record {
-  count = let c = h.count in let k = ap length e in omega arith;
-  ready = λ i to d z at. h.ready i to d (let low = slice_get_within (code_at b p) i (Send to d) at in let k = ap length e in omega arith) at;
-}
-
 -- the memory of a processor at its start
-pub fresh_fits : (b : Parts) (p slots words : ℕ) (es : List Entry) (s : Held) (bs : List (Option (List ℕ))) (c : CellLists) (heads tails : List End) → EntriesFit b p es → s ≡ held [] (all_sends b p) → BuffersFit b p 0 bs →
-    HasRoom b p (length (code_at b p)) slots words → c ≡ no_lists slots words → length heads ≡ processor_count b → length tails ≡ processor_count b → IsFitted b p 0 es s bs c heads tails
-fresh_fits b p slots words es s bs c heads tails fit e buffers room f h t = record {
+pub fresh_fits : (b : Parts) (p slots words : ℕ) (es : List Entry) (s : Held) (c : CellLists) (heads tails : List End) → EntriesFit b p es → s ≡ held [] (all_sends b p) →
+    HasRoom b p (length (code_at b p)) slots words → c ≡ no_lists slots words → length heads ≡ processor_count b → length tails ≡ processor_count b → IsFitted b p es s c heads tails
+fresh_fits b p slots words es s c heads tails fit e room f h t = record {
   entries_fit = fit;
   stash_fits = record {
     room = let m = ap (λ (k : Held). length k.parcels) e in let n = ap (λ (k : Held). k.spare) e in omega arith;
     whole = subst (λ (k : Held). AllWhole b k.parcels) (sym e) tt;
   };
-  buffers_fit = buffers;
   cells_fit = subst (λ (k : CellLists). HasRoom b p (length (code_at b p)) k.slot_room k.word_room) (sym f) room;
   heads_fit = h;
   tails_fit = t;
 }
 
 -- a processor at its start is at rest
-pub fresh_rest : (b : Parts) (n p : ℕ) (e : Ends) (s : Standing) → p < processor_count b → n ≡ 1 → AreEndsOf (processor_count b) (all_traffic b n) b.channels p e →
+pub fresh_rest : (b : Parts) (n p : ℕ) (e : Ends) (s : Standing) → p < processor_count b → AreEndsOf (processor_count b) (all_traffic b n) b.channels p e →
     s ≡ record { bundle = b; number = p; frames = n; local = new_local; heads = e.heads; tails = e.tails } → IsAtRest (seated s 0) × IsFresh b n p (seated s 0)
-fresh_rest b n p e s low one ends is =
+fresh_rest b n p e s low ends is =
     subst (λ (t : Standing). IsAtRest (seated t 0) × IsFresh b n p (seated t 0)) (sym is) (
-      record { known = low; frames = one; within = omega arith; start = λ _. refl; wires = wires },
+      record { known = low; within = omega arith; empty = refl; wires = wires },
       record { bundle = refl; number = refl; frames = refl; ran = refl; local = refl; wires = wires },
     )
   where
@@ -189,6 +158,14 @@ fresh_rest b n p e s low one ends is =
 
     wires : HasPassedOn (record { bundle = b; number = p; frames = n; ran = 0; local = new_local; heads = e.heads; tails = e.tails })
     wires = record { heads = ends.heads; tails = ends.tails }
+
+-- and it has the lists of words of all frames
+pub fresh_stocked : (b : Parts) (n p : ℕ) (e : Ends) (s : Standing) (buffers : List (List ℕ)) →
+    s ≡ record { bundle = b; number = p; frames = n; local = new_local; heads = e.heads; tails = e.tails } →
+    sizes buffers ≡ repeated n (send_lengths b (code_at b p)) → IsStocked (seated s 0) buffers
+fresh_stocked b n p e s buffers is ready =
+    subst (λ (t : Standing). IsStocked (seated t 0) buffers) (sym is)
+    (record { left = n; total = refl; ready = ready })
 
 -- one processor more
 pub seated_more : (b : Parts) (n number : ℕ) (all rest after : List Ends) (seats : List Seated) (e : Ends) (s : Seated) → rest ≡ e ∷ after → IsFresh b n number s → AreSeated b n number all rest seats → AreSeated b n (number + 1) all after (seats ++ s ∷ [])

@@ -1,12 +1,8 @@
 -- What a processor's memory keeps while it runs. No public clause cites this.
-use Rattle.std.specs.Prelude.{◌≡◌, ℕ, ◌+◌, ◌<◌, ◌≤◌, List, [], ◌∷◌, Option, Some, length, slice_get}
+use Rattle.std.specs.Prelude.{◌≡◌, ℕ, ◌+◌, ◌<◌, ◌≤◌, List, [], ◌∷◌, length}
 use Rattle.pyr_num.specs.Cells.{CellLists}
-use Rattle.pyr_num.specs.declared.ids.DatumId.{DatumId}
-use Rattle.pyr_num.specs.declared.ids.ProcId.{ProcId}
 use Rattle.pyr_num.specs.declared.parcel.Parcel.{Parcel}
 use Rattle.pyr_bundle.specs.Parts.{Parts, processor_count, code_at, length_of}
-use Rattle.pyr_bundle.specs.WellFormed.{StandsAt}
-use Rattle.pyr_bundle.specs.declared.instr.Instr.TheVariants.{Send}
 use Rattle.pyr_machine.specs.Counts.{all_sends}
 use Rattle.pyr_machine.specs.State.{IsExec, task_slots, task_words}
 use Rattle.pyr_stash.specs.Held.{Held}
@@ -27,16 +23,6 @@ pub record EntriesFit (b : Parts) (p : ℕ) (entries : List Entry) : Type 0 wher
   pub sized : AreSized b entries
   pub written : (i t : ℕ) → IsExec b p i t → CanWrite b t entries
 
--- a list of so many words is ready here
-abbrev pub IsReady : ℕ → Option (Option (List ℕ)) → Type 0
-IsReady n o = (words : List ℕ) × (o ≡ Some (Some words)) × (length words ≡ n)
-
--- for each send from this place on a list of words is ready, of its datum's length
-pub record BuffersFit (b : Parts) (p from : ℕ) (buffers : List (Option (List ℕ))) : Type 0 where
-  pub count : length buffers ≡ length (code_at b p)
-  pub ready : (i : ℕ) (to : ProcId) (d : DatumId) → from ≤ i → StandsAt b p i (Send to d)
-      → IsReady (length_of b d.0) (slice_get buffers i)
-
 -- there is room for each task that stands before a place
 abbrev pub HasRoom : Parts → ℕ → ℕ → ℕ → ℕ → Type 0
 HasRoom b p n slots words =
@@ -51,12 +37,10 @@ pub record StashFits (b : Parts) (p : ℕ) (stash : Held) : Type 0 where
   pub room : length stash.parcels + stash.spare ≡ all_sends b p
   pub whole : AllWhole b stash.parcels
 
-pub record IsFitted (b : Parts) (p place : ℕ) (entries : List Entry) (stash : Held)
-    (buffers : List (Option (List ℕ))) (cells : CellLists) (heads tails : List End)
-    : Type 0 where
+pub record IsFitted (b : Parts) (p : ℕ) (entries : List Entry) (stash : Held) (cells : CellLists)
+    (heads tails : List End) : Type 0 where
   pub entries_fit : EntriesFit b p entries
   pub stash_fits : StashFits b p stash
-  pub buffers_fit : BuffersFit b p place buffers
   pub cells_fit : CellsFit b p cells
   pub heads_fit : length heads ≡ processor_count b
   pub tails_fit : length tails ≡ processor_count b

@@ -4,6 +4,7 @@ pub mod Standing
 pub mod Seated
 pub mod Laws
 pub mod Entries
+pub mod Buffers
 pub mod Computing
 pub mod Fitted
 pub mod Running

@@ -1,16 +1,15 @@
 -- The memory of a processor while it is made. No public clause cites this.
-use Rattle.std.specs.Prelude.{◌≡◌, ℕ, ◌+◌, ◌<◌, ◌≤◌, false, List, [], Option, Some, length, drop, slice_get, slice_index_or}
+use Rattle.std.specs.Prelude.{◌≡◌, ℕ, ◌+◌, ◌<◌, ◌≤◌, false, List, [], Some, length, drop, slice_get, slice_index_or}
 use Rattle.pyr_num.specs.declared.ids.DatumId.{DatumId}
 use Rattle.pyr_num.specs.declared.ids.ProcId.{ProcId}
 use Rattle.pyr_bundle.specs.Parts.{Parts, task_id, task_at, datum_count, length_of}
-use Rattle.pyr_bundle.specs.WellFormed.{Fits, StandsAt}
+use Rattle.pyr_bundle.specs.WellFormed.{Fits}
 use Rattle.pyr_bundle.specs.declared.instr.Instr.{Instr}
 use Rattle.pyr_bundle.specs.declared.instr.Instr.TheVariants.{Recv, Exec, Send}
 use Rattle.pyr_machine.specs.State.{IsExec, task_slots, task_words}
 use Rattle.pyr_proc.specs.declared.entry.Entry.{Entry}
 use Rattle.pyr_proc.specs.Entries.{entry_at}
 use Rattle.pyr_proc.specs.Computing.{size_at}
-use Rattle.pyr_proc.specs.Fitted.{IsReady}
 use Rattle.pyr_num.specs.declared.parcel.Parcel.{Parcel}
 use Rattle.pyr_ends.specs.declared.ends.Ends.{Ends}
 use Rattle.pyr_proc.specs.Feed.{feed_of}
@@ -63,17 +62,6 @@ pub record ArePrepared (b : Parts) (p n : ℕ) (entries : List Entry) : Type 0 w
   pub unheld : AreUnheld entries
   pub listed : (i t : ℕ) → i < n → IsExec b p i t
       → AreListed b (task_at b t).writes (length (task_at b t).writes) entries
-
--- the first n instructions have their lists of words
-pub record AreBuffered (b : Parts) (p n : ℕ) (buffers : List (Option (List ℕ))) : Type 0 where
-  pub count : length buffers ≡ n
-  pub ready : (i : ℕ) (to : ProcId) (d : DatumId) → i < n → StandsAt b p i (Send to d)
-      → IsReady (length_of b d.0) (slice_get buffers i)
-
--- a list of words for this instruction, if it is a send
-abbrev pub IsBufferFor : Parts → Instr → Option (List ℕ) → Type 0
-IsBufferFor b instr o =
-    (to : ProcId) (d : DatumId) → instr ≡ Send to d → IsReady (length_of b d.0) (Some o)
 
 -- what the wires of a bundle are to carry
 abbrev pub all_traffic : Parts → ℕ → ProcId → ProcId → List Parcel

@@ -25,6 +25,10 @@ CanTake s peer =
     (x : Parcel) → next_at (end_for s.heads peer) ≡ Some x
     → IsWhole s.bundle x × (holds parcel_tag x.tag.0 s.local.stash ≡ false)
 
+-- it went back to the start of its code, with nothing in the store
+abbrev pub begun : Standing → Standing
+begun s = record s { local = record { place = 0; store = []; stash = s.local.stash } }
+
 -- the parcel of a datum went from the stash to the store, and the place went on
 abbrev pub moved_out : DatumId → LocalState Parcel → LocalState Parcel
 moved_out d l =

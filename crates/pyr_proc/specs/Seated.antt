@@ -85,10 +85,9 @@ pub record AreFresh (b : Parts) (n : ℕ) (seats : List Seated) : Type 0 where
   pub count : length seats ≡ processor_count b
   pub each : (p : ℕ) (s : Seated) → slice_get seats p ≡ Some s → IsFresh b n p s
 
--- what a processor keeps between two frames. There is one frame for now
+-- what holds of a processor before its first frame, between two frames, and after the last one
 pub record IsAtRest (s : Seated) : Type 0 where
   pub known : s.number < processor_count s.bundle
-  pub frames : s.frames ≡ 1
   pub within : s.ran ≤ s.frames
-  pub start : s.ran ≡ 0 → s.local ≡ new_local
+  pub empty : s.local.stash ≡ []
   pub wires : HasPassedOn s

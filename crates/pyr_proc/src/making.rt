@@ -1,13 +1,14 @@
 // The processors of a bundle at their start, with all memory of their runs.
-ghost use Rattle.std.specs.Prelude.{◌≡◌, ◌<◌, ◌≤◌, [], length, IfOk, OnOk};
-ghost use Rattle.pyr_num.specs.declared.limits.TheConstants.Limits.{INSTRUCTIONS};
-ghost use Rattle.pyr_bundle.specs.Parts.{processor_count, task_count, datum_count, task_at, length_of};
+ghost use Rattle.std.specs.Prelude.{◌≡◌, ◌<◌, ◌≤◌, [], ◌∷◌, ◌++◌, length, IfOk, OnOk};
+ghost use Rattle.pyr_num.specs.declared.limits.TheConstants.Limits.{INSTRUCTIONS, LEAST_FRAMES, FRAMES};
+ghost use Rattle.pyr_bundle.specs.Parts.{processor_count, task_count, datum_count, task_at, code_at, length_of};
 ghost use Rattle.pyr_machine.specs.Machine.{new_local};
 ghost use Rattle.pyr_machine.specs.Counts.{sends_to, all_sends};
 ghost use Rattle.pyr_proc.specs.Entries.{store_of};
-ghost use Rattle.pyr_proc.specs.Fitted.{EntriesFit, BuffersFit};
+ghost use Rattle.pyr_proc.specs.Buffers.{send_lengths, sizes, repeated};
+ghost use Rattle.pyr_proc.specs.Fitted.{EntriesFit};
 ghost use Rattle.pyr_ends.specs.Wired.{AreEndsOf};
-ghost use Rattle.pyr_proc.specs.Making.{IsKnown, AreUnheld, Prepares, IsBufferFor, written_at, all_traffic};
+ghost use Rattle.pyr_proc.specs.Making.{IsKnown, AreUnheld, Prepares, written_at, all_traffic};
 ghost use Rattle.pyr_proc.specs.Seated.{IsFresh, AreFresh};
 
 use crate::entry::Entry;
@@ -20,6 +21,7 @@ use pyr_machine::Loaded;
 use pyr_num::{Cells, DatumId, ProcId, TaskId, Words};
 use pyr_stash::Stash;
 use std::alloc::{AllocError, Global};
+use std::collections::VecDeque;
 use std::snapshot::Snapshot;
 use std::sync::Wait;
 
@@ -104,31 +106,56 @@ fn fresh_entries(alloc: Global, bundle: &Bundle, p: ProcId) -> Result<Vec<Entry>
     Ok(entries)
 }
 
-// A list of words for what an instruction sends.
-fn buffer_for(alloc: Global, bundle: &Bundle, instr: Instr) -> Result<Option<Words>, AllocError>
+// Adds a list of words for what an instruction sends, if it sends something.
+fn add_buffer(
+    alloc: Global,
+    bundle: &Bundle,
+    instr: Instr,
+    buffers: &mut VecDeque<Words>,
+) -> Result<(), AllocError>
     requires { IsKnown bundle.now instr }
-    ensures { IfOk result (IsBufferFor bundle.now instr) }
+    ensures { OnOk result (sizes buffers.new.items
+        ≡ sizes buffers.old.items ++ send_lengths bundle.now (instr ∷ [])) }
 {
     match instr {
-        Instr::Send { datum, .. } => Ok(Some(zeros(alloc, bundle, datum)?)),
-        Instr::Recv { .. } | Instr::Exec { .. } => Ok(None),
+        Instr::Send { datum, .. } => buffers.push_back(zeros(alloc, bundle, datum)?)?,
+        Instr::Recv { .. } | Instr::Exec { .. } => {}
     }
+    Ok(())
 }
 
-// A list of words for each send of a processor, at the place of the send.
+// Adds a list of words for each send of a processor, in the order of its code.
+fn add_buffers(
+    alloc: Global,
+    bundle: &Bundle,
+    p: ProcId,
+    buffers: &mut VecDeque<Words>,
+) -> Result<(), AllocError>
+    requires { p.0 < processor_count bundle.now }
+    ensures { OnOk result (sizes buffers.new.items
+        ≡ sizes buffers.old.items ++ send_lengths bundle.now (code_at bundle.now p.0)) }
+{
+    bundle.well_formed();
+    for instr in bundle.code(p) {
+        add_buffer(alloc, bundle, *instr, buffers)?;
+    }
+    Ok(())
+}
+
+// A list of words for each send of a processor in so many frames, one after another.
 fn fresh_buffers(
     alloc: Global,
     bundle: &Bundle,
     p: ProcId,
-) -> Result<Vec<Option<Words>>, AllocError>
+    frames: u32,
+) -> Result<VecDeque<Words>, AllocError>
     requires { p.0 < processor_count bundle.now }
-    ensures { IfOk result (λ v. BuffersFit bundle.now p.0 0 v.items) }
+    ensures { IfOk result (λ buffers. sizes buffers.items
+        ≡ repeated frames (send_lengths bundle.now (code_at bundle.now p.0))) }
 {
-    bundle.well_formed();
-    let code = bundle.code(p);
-    let mut buffers = Vec::with_capacity(alloc, code.len())?;
-    for instr in code {
-        buffers.push_reserved(buffer_for(alloc, bundle, *instr)?);
+    let mut buffers = VecDeque::new(alloc);
+    for _ in 0..frames {
+        add_buffers(alloc, bundle, p, &mut buffers)?;
     }
     Ok(buffers)
 }
@@ -185,7 +212,6 @@ fn fresh_station(
 {
     let entries = fresh_entries(alloc, bundle, number)?;
     let stash = Stash::new(alloc, stash_room(bundle, number))?;
-    let buffers = fresh_buffers(alloc, bundle, number)?;
     let room = room_of(bundle, number);
     let cells = Cells::new(alloc, room.slots, room.words)?;
     let Ends { tails, heads } = ends;
@@ -196,7 +222,6 @@ fn fresh_station(
         place: 0,
         entries,
         stash,
-        buffers,
         cells,
         heads,
         tails,
@@ -212,23 +237,29 @@ fn fresh_seat(
     ends: Ends,
 ) -> Result<Seat, AllocError>
     requires known { number.0 < processor_count bundle.now }
-    requires one { frames ≡ 1 }
     requires ends { AreEndsOf (processor_count bundle.now) (all_traffic bundle.now frames)
         bundle.now.channels number.0 ends }
     ensures { IfOk result (IsFresh bundle.now frames number.0) }
 {
     let station = fresh_station(alloc, bundle, number, frames, ends)?;
-    Ok(Seat { station, ran: 0 })
+    let buffers = fresh_buffers(alloc, bundle, number, frames)?;
+    Ok(Seat {
+        station,
+        buffers,
+        ran: 0,
+    })
 }
 
-/// The processors of a bundle at their start, by rising number, each without its bundle.
+/// The processors of a bundle at their start, by rising number, each without its bundle, for 1 to
+/// `Limits::FRAMES` frames.
 pub fn seats<R: Wait>(
     rt: &R,
     alloc: Global,
     loaded: &Loaded,
     frames: u32,
 ) -> Result<Vec<Seat>, AllocError>
-    requires { frames ≡ 1 }
+    requires some { LEAST_FRAMES ≤ frames }
+    requires few { frames ≤ FRAMES }
     ensures { IfOk result (λ seats. AreFresh loaded.now.bundle frames seats.items) }
 {
     loaded.is_good();

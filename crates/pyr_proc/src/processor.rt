@@ -32,21 +32,24 @@ impl<'a> Model for Processor<'a> {
 
 impl<'a> Processor<'a> {
     ghost use Rattle.std.specs.Prelude.{◌≡◌, ◌<◌, ◌≤◌, [], All, is_some, IfOk, IfSome, vec_len, vec_capacity};
+    ghost use Rattle.pyr_num.specs.declared.limits.TheConstants.Limits.{LEAST_FRAMES, FRAMES};
     ghost use Rattle.pyr_machine.specs.Machine.{holds};
     ghost use Rattle.pyr_machine.specs.Parcels.{parcel_tag, words_in};
     ghost use Rattle.pyr_proc.specs.Seated.{IsOf, AreFresh, HasRun};
 
-    /// One processor for each number of the bundle, by rising number, each at its start. There is a
-    /// wire for each channel, with the channel's capacity, made for the traffic between its two
-    /// processors. All memory of the runs is taken here: the cells, the stores, the stashes, the
-    /// lists of the parcels that are sent, and the wires.
+    /// One processor for each number of the bundle, by rising number, each at its start, for 1 to
+    /// `Limits::FRAMES` frames. There is a wire for each channel, with the channel's capacity, made
+    /// for the traffic between its two processors in these frames, one after another. All memory of
+    /// the runs is taken here: the cells, the stores, the stashes, the lists of the parcels that are
+    /// sent in all frames, and the wires.
     pub fn make<R: Wait>(
         rt: &R,
         alloc: Global,
         loaded: &'a Loaded,
         frames: u32,
     ) -> Result<Vec<Processor<'a>>, AllocError>
-        requires { frames ≡ 1 }
+        requires some { LEAST_FRAMES ≤ frames }
+        requires few { frames ≤ FRAMES }
         ensures { IfOk result (λ processors. AreFresh loaded.now.bundle frames processors.items) }
     {
         let seats = seats(rt, alloc, loaded, frames)?;
@@ -54,7 +57,7 @@ impl<'a> Processor<'a> {
         Ok(Processor::all_seated(loaded, seats, processors))
     }
 
-    /// Runs a frame. It may wait for the other processors. When it returns, it has sent and
+    /// Runs the next frame. It may wait for the other processors. When it returns, it has sent and
     /// received exactly its traffic of the frame, its stash is empty, and it stands at the end of
     /// its local run. It takes no memory, and it can't fail.
     pub fn run<P: Pace, R: Wait>(&mut self, rt: &R, frame: u64, pace: &P)

@@ -2,7 +2,8 @@
 use crate::Pace;
 use crate::station::Station;
 use pyr_machine::Loaded;
-use pyr_num::DatumId;
+use pyr_num::{DatumId, Words};
+use std::collections::VecDeque;
 use std::marker::Model;
 use std::sync::Wait;
 
@@ -12,12 +13,15 @@ use std::sync::Wait;
 #[derive(Drop)]
 pub struct Seat {
     pub(crate) station: Station,
+    /// A list of words for each send of each frame that is still to be run, in their order.
+    pub(crate) buffers: VecDeque<Words>,
     pub(crate) ran: u32,
 }
 
 impl Model for Seat {
     ghost use Rattle.std.specs.Coded.{codes};
     ghost use Rattle.pyr_code.specs.contracts.op.Op as op;
+    ghost use Rattle.pyr_proc.specs.Buffers.{IsStocked};
     ghost use Rattle.pyr_proc.specs.Seated.{Seated, seated, IsAtRest};
 
     ghost Value = { Seated };
@@ -26,7 +30,8 @@ impl Model for Seat {
 
     ghost view = { λ s. seated s.station s.ran };
 
-    ghost invariant = { λ s. IsAtRest (seated s.station s.ran) };
+    ghost invariant = { λ s. IsAtRest (seated s.station s.ran)
+        × IsStocked (seated s.station s.ran) s.buffers.items };
 }
 
 impl Seat {
@@ -35,7 +40,7 @@ impl Seat {
     ghost use Rattle.pyr_machine.specs.Parcels.{parcel_tag, words_in};
     ghost use Rattle.pyr_proc.specs.Seated.{HasRun};
 
-    /// Runs a frame, over the bundle that it was made for. It may wait for the other processors.
+    /// Runs the next frame, over the bundle that it was made for. It may wait for the other processors.
     /// When it returns, it has sent and received exactly its traffic of the frame, its stash is
     /// empty, and it stands at the end of its local run. It takes no memory, and it can't fail.
     pub fn run<P: Pace, R: Wait>(&mut self, rt: &R, loaded: &Loaded, frame: u64, pace: &P)
@@ -45,7 +50,9 @@ impl Seat {
         ensures { HasRun frame self.old self.new }
     {
         loaded.is_good();
-        self.station.run(rt, loaded.bundle(), frame, pace);
+        self.station.begin();
+        self.station
+            .run(rt, loaded.bundle(), frame, pace, &mut self.buffers);
         self.ran += 1;
     }
 

@@ -1,9 +1,9 @@
 // What a processor keeps, and the steps of its local run.
-ghost use Rattle.std.specs.Prelude.{◌≡◌, ℕ, ◌+◌, ◌<◌, true, false, length, slice_get, slice_set};
+ghost use Rattle.std.specs.Prelude.{◌≡◌, ℕ, ◌+◌, ◌<◌, true, false, drop, length, slice_get, slice_set};
 ghost use Rattle.std.specs.Prelude.{Some, None, is_some, IfSome};
 ghost use Rattle.std.specs.List.{list_all};
 ghost use Rattle.pyr_num.specs.declared.limits.TheConstants.Limits.{INSTRUCTIONS};
-ghost use Rattle.pyr_bundle.specs.Parts.{processor_count, datum_count, code_at, task_at};
+ghost use Rattle.pyr_bundle.specs.Parts.{processor_count, datum_count, code_at, task_at, length_of};
 ghost use Rattle.pyr_bundle.specs.WellFormed.{StandsAt, IsWellFormed};
 ghost use Rattle.pyr_bundle.specs.declared.instr.Instr.TheVariants.{Recv, Exec, Send};
 ghost use Rattle.pyr_machine.specs.Machine.{holds, worked_by, advanced};
@@ -12,23 +12,25 @@ ghost use Rattle.pyr_machine.specs.Counts.{all_sends};
 ghost use Rattle.pyr_wire.specs.End.{passed_on};
 ghost use Rattle.pyr_ends.specs.Ends.{end_for};
 ghost use Rattle.pyr_stash.specs.Held.{parcel_in};
-ghost use Rattle.pyr_proc.specs.Running.{next_at, moved_out, CanTake, TakesFrom, IsRunning, GoesOn, KeepsRunning};
+ghost use Rattle.pyr_proc.specs.Buffers.{IsFront, AreReady, StaysReady};
+ghost use Rattle.pyr_proc.specs.Running.{next_at, begun, moved_out, CanTake, TakesFrom, IsRunning, GoesOn, KeepsRunning};
 
 use crate::Pace;
 use crate::computing::compute;
 use crate::entry::Entry;
-use crate::store::{copy_words, keep, words_of};
+use crate::store::{copy_words, empty, keep, words_of};
 use pyr_bundle::{Bundle, Instr};
 use pyr_ends::{Heads, Tails};
 use pyr_num::{Cells, DatumId, Parcel, ProcId, TaskId, Words};
 use pyr_stash::Stash;
+use std::collections::VecDeque;
 use std::marker::Model;
 use std::snapshot::Snapshot;
 use std::sync::Wait;
 
 /// The place, the store and the stash of a processor, the ends of its wires, and the memory of its
-/// run: a list of words for each datum that it writes and for each of its sends, and cells. It
-/// keeps no bundle: in contracts it has the one that it was made for.
+/// tasks: a list of words for each datum that it writes, and cells. It keeps no bundle: in contracts
+/// it has the one that it was made for.
 #[derive(Drop)]
 pub struct Station {
     pub bundle: Snapshot<Bundle>,
@@ -37,7 +39,6 @@ pub struct Station {
     pub place: u32,
     pub entries: Vec<Entry>,
     pub stash: Stash,
-    pub buffers: Vec<Option<Words>>,
     pub cells: Cells,
     pub heads: Heads,
     pub tails: Tails,
@@ -67,11 +68,19 @@ impl Model for Station {
       tails = s.tails;
     } };
 
-    ghost invariant = { λ s. IsFitted s.bundle.value s.number.0 s.place s.entries.items s.stash
-        s.buffers.items s.cells s.heads s.tails };
+    ghost invariant = { λ s. IsFitted s.bundle.value s.number.0 s.entries.items s.stash s.cells
+        s.heads s.tails };
 }
 
 impl Station {
+    /// Goes back to the start of its code, with nothing in the store. Its lists of words stay.
+    pub fn begin(&mut self)
+        ensures { self.new ≡ begun self.old }
+    {
+        self.place = 0;
+        empty(&mut self.entries);
+    }
+
     // The instruction at the place; at the code's end, none.
     fn instruction(&self, bundle: &Bundle) -> Option<Instr>
         requires { self.now.number < processor_count bundle.now }
@@ -143,21 +152,23 @@ impl Station {
         self.place += 1;
     }
 
-    // Sends a datum to a processor, and goes on. The words are copied into a list that was made for
-    // this send, and move from there.
-    fn send<R: Wait>(&mut self, rt: &R, to: ProcId, datum: DatumId)
+    // Sends a datum to a processor, and goes on. The words are copied into the first of the lists,
+    // and move from there.
+    fn send<R: Wait>(&mut self, rt: &R, to: ProcId, datum: DatumId, buffers: &mut VecDeque<Words>)
         requires well { IsWellFormed self.old.bundle }
         requires at { StandsAt self.old.bundle self.old.number self.old.local.place
             (Send to datum) }
         requires held { holds parcel_tag datum.0 self.old.local.store ≡ true }
         requires next { next_at (end_for self.old.tails to.0)
             ≡ Some (parcel_in datum self.old.local.store) }
-        ensures { self.new ≡ record self.old {
+        requires ready { IsFront (length_of self.old.bundle datum.0) buffers.old.items }
+        ensures sent { self.new ≡ record self.old {
           local = advanced self.old.local;
           tails = slice_set self.old.tails to.0 (passed_on (end_for self.old.tails to.0));
         } }
+        ensures rest { buffers.new.items ≡ drop 1 buffers.old.items }
     {
-        let Some(mut words) = self.buffers[self.place as usize].take() else {
+        let Some(mut words) = buffers.pop_front() else {
             unreachable!()
         };
         copy_words(&self.entries, datum, &mut words);
@@ -174,12 +185,15 @@ impl Station {
         frame: u64,
         pace: &P,
         instr: Instr,
+        buffers: &mut VecDeque<Words>,
     )
         requires running { IsRunning frame self.old }
         requires bundle { self.old.bundle ≡ bundle.now }
         requires at { StandsAt self.old.bundle self.old.number self.old.local.place instr }
+        requires ready { (left : ℕ) × AreReady self.old left buffers.old.items }
         ensures goes_on { GoesOn frame self.old self.new }
         ensures place { self.new.local.place ≡ self.old.local.place + 1 }
+        ensures ready { StaysReady self.old buffers.old.items self.new buffers.new.items }
     {
         match instr {
             Instr::Recv { from, datum } => self.receive(rt, from, datum),
@@ -187,7 +201,7 @@ impl Station {
                 pace.before_task(self.number, task);
                 self.execute(bundle, frame, task);
             }
-            Instr::Send { to, datum } => self.send(rt, to, datum),
+            Instr::Send { to, datum } => self.send(rt, to, datum, buffers),
         }
     }
 
@@ -199,15 +213,24 @@ impl Station {
         words_of(&self.entries, d)
     }
 
-    /// Goes through the code to its end.
-    pub fn run<P: Pace, R: Wait>(&mut self, rt: &R, bundle: &Bundle, frame: u64, pace: &P)
+    /// Goes through the code to its end, with one of these lists of words for each send.
+    pub fn run<P: Pace, R: Wait>(
+        &mut self,
+        rt: &R,
+        bundle: &Bundle,
+        frame: u64,
+        pace: &P,
+        buffers: &mut VecDeque<Words>,
+    )
         requires running { IsRunning frame self.old }
         requires bundle { self.old.bundle ≡ bundle.now }
+        requires ready { (left : ℕ) × AreReady self.old left buffers.old.items }
         ensures goes_on { GoesOn frame self.old self.new }
         ensures end { slice_get (code_at bundle.now self.new.number) self.new.local.place ≡ None }
+        ensures ready { StaysReady self.old buffers.old.items self.new buffers.new.items }
     {
         while let Some(instr) = self.instruction(bundle) {
-            self.perform(rt, bundle, frame, pace, instr);
+            self.perform(rt, bundle, frame, pace, instr, buffers);
         }
     }
 }

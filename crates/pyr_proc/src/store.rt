@@ -1,8 +1,10 @@
 // The store of a processor: an entry for each datum, so that a datum is found by its number.
-ghost use Rattle.std.specs.Prelude.{◌≡◌, ◌<◌, true, length, is_some, IfSome, slice_set};
+ghost use Rattle.std.specs.Prelude.{◌≡◌, ℕ, ◌<◌, true, length, is_some, IfSome, slice_set};
 ghost use Rattle.pyr_machine.specs.Machine.{holds, stored};
 ghost use Rattle.pyr_machine.specs.Parcels.{parcel_tag, words_in};
+ghost use Rattle.pyr_proc.specs.Computing.{size_at};
 ghost use Rattle.pyr_proc.specs.Entries.{store_of, entry, entry_at};
+ghost use Rattle.pyr_proc.specs.Making.{AreUnheld};
 
 use crate::entry::Entry;
 use pyr_num::{DatumId, Words, overwrite};
@@ -16,6 +18,17 @@ pub fn keep(entries: &mut [Entry], d: DatumId, words: Words)
         ≡ stored parcel_tag (record { tag = d; words = words }) (store_of entries.old) }
 {
     entries[d.0 as usize] = Entry { held: true, words };
+}
+
+/// Takes all data out of the store. The lists of words stay for those to come.
+pub fn empty(entries: &mut [Entry])
+    ensures count { length entries.new ≡ length entries.old }
+    ensures sizes { (d : ℕ) → size_at entries.new d ≡ size_at entries.old d }
+    ensures unheld { AreUnheld entries.new }
+{
+    for entry in entries.iter_mut() {
+        entry.held = false;
+    }
 }
 
 /// The words of a datum, where it is in the store.

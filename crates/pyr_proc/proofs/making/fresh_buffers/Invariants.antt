@@ -1,6 +1,9 @@
-use Rattle.std.proofs.Common.{◌≡◌, ◌≤◌, length, vec_len, vec_capacity}
-use Rattle.pyr_proc.specs.Making.{AreBuffered}
+use Rattle.std.proofs.Common.{◌≡◌}
+use Rattle.pyr_bundle.specs.Parts.{code_at}
+use Rattle.pyr_proc.specs.Buffers.{send_lengths, repeated, sizes}
 use Rattle.pyr_proc.proofs.making.fresh_buffers.Given as goal
 
-abbrev pub invariant-loop-instr : goal.invariant-loop-instr
-invariant-loop-instr l = AreBuffered l.bundle l.fn.p.0 l.instr-index l.buffers.items × (vec_len l.buffers ≡ l.instr-index) × (length l.code ≤ vec_capacity l.buffers)
+-- the lists of the frames so far are there
+abbrev pub invariant-loop : goal.invariant-loop
+invariant-loop l =
+    sizes l.buffers.items ≡ repeated l.counter (send_lengths l.bundle (code_at l.bundle l.fn.p.0))

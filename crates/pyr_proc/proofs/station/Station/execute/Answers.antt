@@ -53,7 +53,7 @@ invariant_of-self c =
     let fills : FillsIn (task_at c.self.inside.bundle.value c.args.task.0).writes items c.compute.new.entries =
     subst (λ (b : Parts). FillsIn (task_at b c.args.task.0).writes items c.compute.new.entries) (sym same)
     (subst (λ (l : List Entry). FillsIn (task_at c.args.bundle.now c.args.task.0).writes l c.compute.new.entries) c.deref_mut.ensures.value c.compute.ensures.fills) in
-    fitted_exec c.self.inside.bundle.value c.self.inside.number.0 c.self.inside.place items c.self.inside.stash c.self.inside.buffers.items c.self.inside.cells c.self.inside.heads c.self.inside.tails
+    fitted_exec c.self.inside.bundle.value c.self.inside.number.0 items c.self.inside.stash c.self.inside.cells c.self.inside.heads c.self.inside.tails
     c.self.invariant c.self.inside.place c.args.task.0 _ c.compute.new.entries c.compute.new.cells at fills
     (written_back c.self.inside.entries.len c.compute.new.entries items (sym c.deref_mut.ensures.len ∙ ap (λ (l : List Entry). length l) c.deref_mut.ensures.value) fills.count)
     c.compute.ensures.slots c.compute.ensures.words

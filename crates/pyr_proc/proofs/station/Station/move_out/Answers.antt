@@ -13,7 +13,7 @@ invariant_of-self-2 c =
     let found = c.in-Some.ensures in
     let items = c.self.inside.entries.items in
     let put : c.keep.new.entries ≡ set items c.args.datum.0 (entry c.in-Some.parcel.words) = c.keep.ensures.entries ∙ ap (λ (l : List Entry). set l c.args.datum.0 (entry c.in-Some.parcel.words)) c.deref_mut.ensures.value in
-    fitted_move c.self.inside.bundle.value c.self.inside.number.0 c.self.inside.place items c.self.inside.stash c.self.inside.buffers.items c.self.inside.cells c.self.inside.heads c.self.inside.tails
+    fitted_move c.self.inside.bundle.value c.self.inside.number.0 items c.self.inside.stash c.self.inside.cells c.self.inside.heads c.self.inside.tails
     c.self.invariant c.take.new.self c.args.datum.0 c.in-Some.parcel.words _ c.keep.new.entries known (sym found.found)
     (ap (λ (x : Parcel). x.words) found.parcel) put
     (written_back c.self.inside.entries.len c.keep.new.entries items (sym c.deref_mut.ensures.len ∙ ap (λ (l : List Entry). length l) c.deref_mut.ensures.value)

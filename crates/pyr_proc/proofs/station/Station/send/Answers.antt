@@ -1,8 +1,8 @@
-use Rattle.std.proofs.Common.{◌≡◌, ◌∙◌, ◌<◌, ℕ, sym, ap, length, List, Some, true, arith, set}
+use Rattle.std.proofs.Common.{◌≡◌, ◌∙◌, ◌<◌, ℕ, sym, ap, length, List, Some, true, arith}
 use Rattle.std.proofs.lemmas.List.{length-set}
 use Rattle.std.proofs.lemmas.Option.{slice_get_within}
 use Rattle.pyr_num.specs.declared.parcel.Parcel.{Parcel}
-use Rattle.pyr_bundle.specs.Parts.{code_at, datum_count}
+use Rattle.pyr_bundle.specs.Parts.{code_at, datum_count, length_of}
 use Rattle.pyr_bundle.specs.WellFormed.{StandsAt, IsWellFormed}
 use Rattle.pyr_bundle.specs.declared.instr.Instr.TheVariants.{Send}
 use Rattle.pyr_machine.specs.Machine.{holds}
@@ -10,6 +10,7 @@ use Rattle.pyr_machine.specs.Parcels.{parcel_tag}
 use Rattle.pyr_wire.specs.End.{End}
 use Rattle.pyr_proc.specs.declared.entry.Entry.{Entry}
 use Rattle.pyr_proc.specs.Entries.{store_of, entry_at}
+use Rattle.pyr_proc.specs.Buffers.{IsFront}
 use Rattle.pyr_proc.specs.Computing.{size_at}
 use Rattle.pyr_proc.proofs.EntryLemmas.{holds-store, words-store}
 use Rattle.pyr_proc.proofs.FittedLemmas.{fitted_send, buffer_fits}
@@ -21,8 +22,9 @@ copy_words-requires-clause-fits c d =
     let at : StandsAt d.self.inside.bundle.value d.self.inside.number.0 d.self.inside.place (Send d.args.to d.args.datum) = rw (← d.self.view_is) at d.requires.at in
     let here : holds parcel_tag d.args.datum.0 (store_of d.self.inside.entries.items) ≡ true = rw (← d.self.view_is) at d.requires.held in
     let low : d.args.datum.0 < datum_count d.self.inside.bundle.value = (well.instrs d.self.inside.number.0 d.self.inside.place (Send d.args.to d.args.datum) at).1 in
-    buffer_fits d.self.inside.bundle.value d.self.inside.number.0 d.self.inside.place d.args.to d.args.datum d.self.inside.entries.items d.self.inside.buffers.items d.index_mut.result.now d.in-Some.words
-    d.self.invariant.entries_fit d.self.invariant.buffers_fit at low here d.in-Some.ensures.value d.index_mut.ensures.value
+    let front : IsFront (length_of d.self.inside.bundle.value d.args.datum.0) d.args.buffers.now.items = rw (← d.self.view_is) at d.requires.ready in
+    buffer_fits d.self.inside.bundle.value d.self.inside.number.0 d.args.datum d.self.inside.entries.items d.args.buffers.now.items d.in-Some.words
+    d.self.invariant.entries_fit front low here d.in-Some.ensures.lookup
     ∙ ap (λ (l : List Entry). size_at l d.args.datum.0) (sym d.deref.ensures.value)
 
 pub send-requires : goal.send-requires
@@ -44,8 +46,8 @@ overflow_add-self c d =
 
 pub invariant_of-self : goal.invariant_of-self
 invariant_of-self c d =
-    fitted_send d.self.inside.bundle.value d.self.inside.number.0 d.self.inside.place d.self.inside.entries.items d.self.inside.stash d.self.inside.buffers.items d.self.inside.cells d.self.inside.heads d.self.inside.tails
-    d.self.invariant _ d.send.new.self (ap (λ o. set d.self.inside.buffers.items d.self.inside.place o) d.take.ensures.after) (ap (λ (l : List End). length l) d.send.ensures.sent ∙ length-set d.self.inside.tails d.args.to.0 _)
+    fitted_send d.self.inside.bundle.value d.self.inside.number.0 d.self.inside.entries.items d.self.inside.stash d.self.inside.cells d.self.inside.heads d.self.inside.tails
+    d.self.invariant d.send.new.self (ap (λ (l : List End). length l) d.send.ensures.sent ∙ length-set d.self.inside.tails d.args.to.0 _)
 
 pub copy_words-requires-clause-known : goal.copy_words-requires-clause-known
 copy_words-requires-clause-known c d =
